@@ -1,0 +1,67 @@
+-- Every row of the table holds: one test that is computed over the table, and what it says of each row.
+use Prim.Native.Nat.{ℕ}
+use mathlib.Core.Bool.{Bool, true, false}
+use mathlib.Core.List.{List, [], _∷_, List·Memᴰ, List·Memᴰ·cases-cons, List·Memᴰ·not-nil}
+use mathlib.Core.Logic.{⊎-elim}
+use mathlib.Core.Path.{_≡_, refl, sym, ap, _∙_}
+use native.Mathlib.Omega.{arith}
+use borrow.Author.Tests.{eqb-true}
+use lib.Dec.{eqb}
+use Rattle.words.specs.Answer.{Answer, refuse, ok, if_then_else_}
+use Rattle.words.specs.Field.{field, common}
+use Rattle.words.specs.PointerWord.{pointerOf}
+use Rattle.words.specs.Offset.{signedOf, displacedOf, literalOf}
+use Rattle.words.specs.InstructionWord.{instructionOf}
+use Rattle.readings.specs.Question.{Question, answer}
+use Rattle.readings.specs.Table.{Row, table}
+
+abbrev both : Bool → Bool → Bool
+both a b = if a then b else false
+
+abbrev sameList : List ℕ → List ℕ → Bool
+sameList [] [] = true
+sameList [] (y ∷ ys) = false
+sameList (x ∷ xs) [] = false
+sameList (x ∷ xs) (y ∷ ys) = both (eqb x y) (sameList xs ys)
+
+abbrev same : Answer (List ℕ) → Answer (List ℕ) → Bool
+same (refuse m) (refuse n) = eqb m n
+same (refuse m) (ok ys) = false
+same (ok xs) (refuse n) = false
+same (ok xs) (ok ys) = sameList xs ys
+
+-- every row's question has the answer that is due
+abbrev hold : List Row → Bool
+hold [] = true
+hold (r ∷ rs) = both (same (answer (r .asked)) (r .due)) (hold rs)
+
+never : {A : Type 0} → false ≡ true → A
+never e = absurd (let z : _≡_ {A = ℕ} 0 1 = cc in omega arith)
+
+parts : (a b : Bool) → both a b ≡ true → (a ≡ true) × (b ≡ true)
+parts true b e = (refl, e)
+parts false b e = never e
+
+same-list : (xs ys : List ℕ) → sameList xs ys ≡ true → xs ≡ ys
+same-list [] [] e = refl
+same-list [] (y ∷ ys) e = never e
+same-list (x ∷ xs) [] e = never e
+same-list (x ∷ xs) (y ∷ ys) e = let t = parts (eqb x y) (sameList xs ys) e in λ i. eqb-true x y (t .0) i ∷ same-list xs ys (t .1) i
+
+same-answer : (a b : Answer (List ℕ)) → same a b ≡ true → a ≡ b
+same-answer (refuse m) (refuse n) e = ap refuse (eqb-true m n e)
+same-answer (refuse m) (ok ys) e = never e
+same-answer (ok xs) (refuse n) e = never e
+same-answer (ok xs) (ok ys) e = ap ok (same-list xs ys e)
+
+-- the questions of a table that passes the test have the answers that are due
+each : (rs : List Row) → hold rs ≡ true → (r : Row) → List·Memᴰ r rs → answer (r .asked) ≡ r .due
+each [] e r m = absurd (List·Memᴰ·not-nil m)
+each (q ∷ rs) e r m =
+    let t = parts (same (answer (q .asked)) (q .due)) (hold rs) e in
+    ⊎-elim (λ (p : r ≡ q). rw p (same-answer _ _ (t .0))) (λ n. each rs (t .1) r n) (List·Memᴰ·cases-cons m)
+
+-- THE STARRED READINGS
+pub readings : (r : Row) → List·Memᴰ r table → answer (r .asked) ≡ r .due
+unfolding field common pointerOf signedOf displacedOf literalOf instructionOf
+readings = each table refl

@@ -1,0 +1,9 @@
+pub mod Answer
+pub mod Numbers
+pub mod Bit
+pub mod Field
+pub mod Arithmetic
+pub mod PointerWord
+pub mod Offset
+pub mod InstructionWord
+pub mod ModeWord

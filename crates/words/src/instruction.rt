@@ -1,0 +1,70 @@
+// Instruction words.
+ghost use mathlib.Core.Path.{_≡_};
+ghost use Prim.Native.Nat.{_<_};
+ghost use Rattle.words.specs.Offset.{signedOf};
+ghost use Rattle.words.specs.InstructionWord.{instructionOf, instructionAnswer};
+use crate::bits::bits;
+
+// An instruction taken apart. 8 bytes.
+pub struct Instruction {
+    pub offset: i32,
+    pub opcode: u8,
+    pub register: u8,
+    pub base: u8,
+    pub indirect: bool,
+}
+
+// What a word read as an instruction gives: the instruction, or the refusal 27.
+pub enum InstructionAnswer {
+    Instruction(Instruction),
+    Refused(u8),
+}
+
+// For each opcode, the bits that must be 0.
+const MASKS: [u32; 13] = [
+    0x00FFFFFF,
+    0x00FF0000,
+    0x00FF0000,
+    0x00FF0000,
+    0x00FF0000,
+    0x00F80000,
+    0x00F80000,
+    0x00FF0000,
+    0x00FF0000,
+    0x00FF0000,
+    0x00FF0000,
+    0x00FF0000,
+    0x00FFF000,
+];
+
+// Twelve bits in two's complement.
+fn signed(offset: u32) -> i32
+    requires { ⌜ offset < 4096 ⌝ }
+    ensures { λ r. ⌜ r ≡ signedOf offset ⌝ }
+{
+    if offset < 2048 {
+        offset as i32
+    } else {
+        offset as i32 - 4096
+    }
+}
+
+// The instruction that a word holds.
+pub fn decode(word: u32) -> InstructionAnswer
+    ensures { λ r. ⌜ instructionAnswer r ≡ instructionOf word ⌝ }
+{
+    let opcode = bits(word, 24, 8);
+    if 12 < opcode {
+        return InstructionAnswer::Refused(27);
+    }
+    if word & MASKS[opcode as usize] != 0 {
+        return InstructionAnswer::Refused(27);
+    }
+    InstructionAnswer::Instruction(Instruction {
+        offset: signed(bits(word, 0, 12)),
+        opcode: opcode as u8,
+        register: bits(word, 16, 3) as u8,
+        base: bits(word, 12, 3) as u8,
+        indirect: bits(word, 15, 1) == 1,
+    })
+}
