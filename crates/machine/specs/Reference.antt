@@ -1,0 +1,31 @@
+-- The check of a reference by the pointer's tag.
+use Prim.Native.Nat.{ℕ, _+_}
+use mathlib.Core.List.{List}
+use lib.Dec.{eqb}
+use lib.ListN.{getD}
+use Rattle.words.specs.Answer.{Answer, refuse, ok, if_then_else_}
+use Rattle.words.specs.declared.pointer.Pointer.{Pointer}
+use Rattle.state.specs.declared.record.Frame.{Frame}
+use Rattle.state.specs.declared.record.Machine.{Machine}
+use Rattle.machine.specs.declared.flag.Access.{Access}
+use Rattle.machine.specs.declared.reference.IndexAnswer.{IndexAnswer}
+use Rattle.machine.specs.declared.reference.IndexAnswer.the-variants as variant
+use Rattle.state.specs.Record.{liveFrame}
+use Rattle.machine.specs.Flag.{flagOf}
+use Rattle.machine.specs.Static.{staticOf}
+use Rattle.machine.specs.Live.{liveOf}
+
+-- 0, or the number of the fault: live for a tagged pointer, static for another
+unfoldable pub verdictOf : List ℕ → List ℕ → ℕ → ℕ → Frame → Access → Pointer → ℕ
+verdictOf lengths rights domain depth frame access p =
+    if p .tag then liveOf lengths rights depth frame access (p .segment) (p .word)
+    else staticOf lengths rights domain (flagOf access) (p .segment) (p .word)
+
+-- a value where the number is 0, else the refusal
+abbrev pub accept : {A : Type 0} → ℕ → A → Answer A
+accept n a = if eqb n 0 then ok a else refuse n
+
+-- what the code's answer stands for
+abbrev pub indexAnswer : IndexAnswer → Answer ℕ
+indexAnswer (variant.At i) = ok i
+indexAnswer (variant.Refused n) = refuse n

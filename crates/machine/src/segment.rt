@@ -1,0 +1,1 @@
+// The part of the memory that a segment occupies.

@@ -1,0 +1,23 @@
+-- Rows that hold nothing, and parts of a record.
+use Prim.Native.Nat.{ℕ, _-_}
+use mathlib.Core.Bool.{false}
+use mathlib.Core.List.{List, []}
+use lib.ListN.{getD}
+use Rattle.words.specs.declared.pointer.Pointer.{Pointer}
+use Rattle.state.specs.declared.record.Capability.{Capability}
+use Rattle.state.specs.declared.record.Frame.{Frame}
+use Rattle.state.specs.declared.record.Machine.{Machine}
+
+-- what lies past the end of an array of pointers, of capabilities, of frames
+abbrev pub noPointer : Pointer
+noPointer = record { word = 0; segment = 0; tag = false }
+
+abbrev pub noCapability : Capability
+noCapability = record { word = 0; length = 0; segment = 0; source = 0; read = false; write = false }
+
+abbrev pub noFrame : Frame
+noFrame = record { capabilities = []; s = noPointer; back = noPointer; count = 0; domain = 0 }
+
+-- the newest frame in use
+abbrev pub liveFrame : Machine → Frame
+liveFrame m = getD (m .frames) (m .depth - 1) noFrame

@@ -1,0 +1,3 @@
+// The machine record, and where its segments lie in the memory.
+pub mod bases;
+pub mod record;
