@@ -1,0 +1,210 @@
+//! What a batch of images reached when the reference ran them.
+
+use reference::record::{ARGUMENT_POINTER, SEGMENTS};
+use reference::words::{Instruction, OPCODES};
+use reference::{read_image, Completed, Ending, Fault, Machine, Processor, Refusal, Run};
+use std::fmt;
+
+/// Upper borders of the histogram of instructions per image.
+const BORDERS: [u32; 8] = [0, 4, 9, 19, 49, 99, 499, 1000];
+
+/// Counts over a batch.
+#[derive(Clone, Debug, Default)]
+pub struct Reached {
+    pub images: u64,
+    /// Completed instructions by opcode.
+    pub completed: [u64; 13],
+    /// Faults 21 to 32.
+    pub faults: [u64; 12],
+    /// Faults by opcode; the last row is for words that are no instruction
+    /// or could not be fetched.
+    pub faults_at: [[u64; 12]; 14],
+    /// Refusals 1 to 6.
+    pub refusals: [u64; 6],
+    pub halted: u64,
+    pub spent: u64,
+    /// Crossing calls by number of arguments.
+    pub calls: [u64; 9],
+    pub calls_inside: u64,
+    pub tagged_returns: u64,
+    /// Crossing calls made with a tagged a.
+    pub relayed_calls: u64,
+    pub passed_on: u64,
+    pub tagged_indirect: u64,
+    /// Images by the most frames that were in use.
+    pub frames: [u64; 9],
+    /// Images by instructions completed.
+    pub lengths: [u64; 8],
+    /// Images in which 20 or more instructions completed.
+    pub twenty: u64,
+}
+
+impl Reached {
+    /// Reads an image, runs it up to the limit, and counts. Gives the machine
+    /// and the run, or the refusal.
+    pub fn observe(
+        &mut self,
+        image: &[u8],
+        memory: &mut [u32],
+        limit: u16,
+    ) -> Result<(Machine, Run), Refusal> {
+        self.images += 1;
+        let mut machine = Machine::default();
+        if let Err(refusal) = read_image(image, &mut machine, memory) {
+            self.refusals[usize::from(refusal.number()) - 1] += 1;
+            return Err(refusal);
+        }
+        let run = self.observe_run(&mut machine, memory, limit)?;
+        Ok((machine, run))
+    }
+
+    fn observe_run(
+        &mut self,
+        machine: &mut Machine,
+        memory: &mut [u32],
+        limit: u16,
+    ) -> Result<Run, Refusal> {
+        let first_words = first_words(machine);
+        let mut processor = Processor::new(machine, memory)?;
+        let (mut count, mut frames) = (0, 0);
+        let mut ending = Ending::Spent;
+        while count < limit && ending == Ending::Spent {
+            match self.observe_step(&mut processor, &first_words) {
+                Err(fault) => ending = Ending::Faulted(fault),
+                Ok(Completed::Halted) => ending = Ending::Halted,
+                Ok(_) => {}
+            }
+            count += u16::from(ending.fault() == 0);
+            frames = frames.max(processor.machine().frame_count);
+        }
+        self.count_ending(ending, count, frames);
+        Ok(Run { ending, count })
+    }
+
+    fn count_ending(&mut self, ending: Ending, count: u16, frames: u8) {
+        match ending {
+            Ending::Halted => self.halted += 1,
+            Ending::Faulted(fault) => self.faults[usize::from(fault.number()) - 21] += 1,
+            Ending::Spent | Ending::Crossed => self.spent += 1,
+        }
+        self.frames[usize::from(frames)] += 1;
+        self.twenty += u64::from(count >= 20);
+        let count = u32::from(count);
+        let bucket = BORDERS.iter().position(|&border| count <= border);
+        self.lengths[bucket.unwrap_or(7)] += 1;
+    }
+
+    fn observe_step(
+        &mut self,
+        processor: &mut Processor,
+        first_words: &[usize; SEGMENTS],
+    ) -> Result<Completed, Fault> {
+        let at = processor.machine().location;
+        let address = first_words[usize::from(at.segment)] + usize::from(at.word);
+        let word = processor.memory().get(address).copied().unwrap_or(0);
+        let pointers = processor.machine().pointers;
+        let outcome = processor.step();
+        let Ok(instruction) = Instruction::from_word(word) else {
+            self.count_fault(outcome.err(), 13);
+            return outcome;
+        };
+        let opcode = instruction.opcode as usize;
+        self.count_fault(outcome.err(), opcode);
+        let completed = outcome?;
+        self.completed[opcode] += 1;
+        let tagged = pointers[usize::from(instruction.base)].tag;
+        self.tagged_indirect += u64::from(instruction.indirect && tagged);
+        match completed {
+            Completed::Called => {
+                self.relayed_calls += u64::from(pointers[ARGUMENT_POINTER].tag);
+                self.count_call(processor, first_words);
+            }
+            Completed::Returned => self.tagged_returns += 1,
+            Completed::Plain if opcode == 8 => self.calls_inside += 1,
+            Completed::Plain | Completed::Halted => {}
+        }
+        Ok(completed)
+    }
+
+    /// Counts a fault, if there is one, under an opcode.
+    fn count_fault(&mut self, fault: Option<Fault>, opcode: usize) {
+        if let Some(fault) = fault {
+            self.faults_at[opcode][usize::from(fault.number()) - 21] += 1;
+        }
+    }
+
+    /// Counts a crossing call just made: its arguments, and those of them
+    /// whose pointer words are tagged.
+    fn count_call(&mut self, processor: &Processor, first_words: &[usize; SEGMENTS]) {
+        let machine = processor.machine();
+        let list = machine.pointers[ARGUMENT_POINTER];
+        let first = first_words[usize::from(list.segment)] + usize::from(list.word);
+        let n = processor.memory()[first] as usize;
+        self.calls[n] += 1;
+        let words = &processor.memory()[first..first + 3 + 2 * n];
+        let tagged = words[3..].iter().step_by(2).filter(|&word| word >> 31 == 1);
+        self.passed_on += tagged.count() as u64;
+    }
+}
+
+/// Where each segment begins in the memory.
+fn first_words(machine: &Machine) -> [usize; SEGMENTS] {
+    let mut next = 0;
+    machine.segments.map(|row| {
+        let first = next;
+        next += usize::from(row.length);
+        first
+    })
+}
+
+impl fmt::Display for Reached {
+    fn fmt(&self, out: &mut fmt::Formatter) -> fmt::Result {
+        writeln!(out, "images {}", self.images)?;
+        let faults: u64 = self.faults.iter().sum();
+        let refused: u64 = self.refusals.iter().sum();
+        let (halted, spent) = (self.halted, self.spent);
+        writeln!(
+            out,
+            "endings: halted {halted} faulted {faults} spent {spent} refused {refused}"
+        )?;
+        writeln!(out, "completed by opcode:")?;
+        for (opcode, count) in OPCODES.iter().zip(self.completed) {
+            writeln!(out, "  {:5} {count}", name(*opcode as usize))?;
+        }
+        row(out, "faults", 21, &self.faults)?;
+        for (opcode, counts) in self.faults_at.iter().enumerate() {
+            row(out, &format!("  faults at {}", name(opcode)), 21, counts)?;
+        }
+        row(out, "refusals", 1, &self.refusals)?;
+        row(out, "crossing calls by arguments", 0, &self.calls)?;
+        row(out, "images by most frames in use", 0, &self.frames)?;
+        writeln!(out, "calls inside a domain {}", self.calls_inside)?;
+        writeln!(out, "calls with a tagged a {}", self.relayed_calls)?;
+        writeln!(out, "tagged returns {}", self.tagged_returns)?;
+        writeln!(out, "passed-on arguments {}", self.passed_on)?;
+        writeln!(out, "tagged indirect reads {}", self.tagged_indirect)?;
+        writeln!(out, "matches failed by source {}", self.faults[4])?;
+        write!(out, "images by instructions completed:")?;
+        for (border, count) in BORDERS.iter().zip(self.lengths) {
+            write!(out, " <={border}: {count}")?;
+        }
+        writeln!(out)?;
+        let share = 100.0 * self.twenty as f64 / self.images.max(1) as f64;
+        writeln!(out, "images with 20 or more instructions {share:.1}%")
+    }
+}
+
+/// The name of an opcode.
+fn name(opcode: usize) -> String {
+    let known = OPCODES.get(opcode);
+    known.map_or("others".to_string(), |o| format!("{o:?}").to_uppercase())
+}
+
+/// A line of counts, each under its number.
+fn row(out: &mut fmt::Formatter, title: &str, first: usize, counts: &[u64]) -> fmt::Result {
+    write!(out, "{title}:")?;
+    for (number, count) in (first..).zip(counts) {
+        write!(out, " {number}: {count}")?;
+    }
+    writeln!(out)
+}

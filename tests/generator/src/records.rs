@@ -1,0 +1,207 @@
+//! Machine records in the middle of a run, sound ones and others.
+
+use crate::program;
+use crate::random::Rng;
+use reference::record::{Capability, Frame, Machine, CAPABILITIES, FRAMES};
+use reference::words::Pointer;
+use reference::{machine_from_bytes, read_image, record_bytes, run, MEMORY_WORDS};
+
+/// A machine with its memory.
+#[derive(Clone, Debug)]
+pub struct Snapshot {
+    pub machine: Machine,
+    pub memory: Vec<u32>,
+}
+
+/// A machine as a run left it after a random number of instructions. Most
+/// have a live frame.
+pub fn mid_run(rng: &mut Rng) -> Snapshot {
+    loop {
+        let mut machine = Machine::default();
+        let mut memory = vec![0; MEMORY_WORDS];
+        let image = program(rng).bytes();
+        if read_image(&image, &mut machine, &mut memory).is_err() {
+            continue;
+        }
+        let limit = rng.below(120) as u16;
+        let ran = run(&mut machine, &mut memory, limit).is_ok();
+        if ran && (machine.frame_count > 0 || rng.chance(20)) {
+            return Snapshot { machine, memory };
+        }
+    }
+}
+
+/// A sound record that need not be one that a run can reach: a mid-run one
+/// with some fields changed inside their ranges.
+pub fn sound(rng: &mut Rng) -> Snapshot {
+    let mut snapshot = mid_run(rng);
+    let machine = &mut snapshot.machine;
+    for _ in 0..rng.between(1, 4) {
+        change_in_range(rng, machine);
+    }
+    snapshot
+}
+
+/// A record with garbage in some fields, or in all of them. Most are not
+/// sound.
+pub fn garbage(rng: &mut Rng) -> Snapshot {
+    let Snapshot { machine, memory } = sound(rng);
+    let machine = if rng.chance(10) {
+        garbage_machine(rng)
+    } else {
+        with_garbage(rng, &machine)
+    };
+    Snapshot { machine, memory }
+}
+
+/// The record with one to four bytes of its encoding replaced.
+fn with_garbage(rng: &mut Rng, machine: &Machine) -> Machine {
+    loop {
+        let mut bytes = record_bytes(machine);
+        for _ in 0..rng.between(1, 4) {
+            let place = rng.below(bytes.len() as u32) as usize;
+            bytes[place] = rng.pick(&[0, 1, 2, 9, 16, 17, 99, 200, 255]);
+        }
+        if let Some(machine) = machine_from_bytes(&bytes) {
+            return machine;
+        }
+    }
+}
+
+/// A record of nothing but garbage.
+fn garbage_machine(rng: &mut Rng) -> Machine {
+    let mut machine = Machine {
+        segment_count: rng.next() as u8,
+        domain_count: rng.next() as u8,
+        a: rng.word(),
+        domain: rng.next() as u8,
+        frame_count: rng.next() as u8,
+        start_domain: rng.next() as u8,
+        ..Machine::default()
+    };
+    for row in &mut machine.segments {
+        row.length = rng.next() as u16;
+        row.gate_count = rng.next() as u16;
+        row.gate_domain = rng.next() as u8;
+    }
+    for row in &mut machine.domains {
+        row.stack_segment = rng.next() as u8;
+        row.rights = row.rights.map(|_| rng.next() as u8);
+    }
+    machine.pointers = machine.pointers.map(|_| garbage_pointer(rng));
+    let place = garbage_pointer(rng);
+    machine.location.segment = place.segment;
+    machine.location.word = place.word;
+    for frame in &mut machine.frames {
+        frame.capability_count = rng.next() as u8;
+        frame.return_location = garbage_pointer(rng);
+        frame.s = garbage_pointer(rng);
+        frame.domain = rng.next() as u8;
+        frame.capabilities = frame.capabilities.map(|_| garbage_capability(rng));
+    }
+    machine
+}
+
+fn garbage_pointer(rng: &mut Rng) -> Pointer {
+    Pointer {
+        tag: rng.chance(50),
+        segment: rng.next() as u8,
+        word: rng.next() as u16,
+    }
+}
+
+fn garbage_capability(rng: &mut Rng) -> Capability {
+    Capability {
+        segment: rng.next() as u8,
+        word: rng.next() as u16,
+        length: rng.next() as u16,
+        read: rng.chance(50),
+        write: rng.chance(50),
+        source: rng.next() as u8,
+    }
+}
+
+/// Changes one thing inside its range.
+fn change_in_range(rng: &mut Rng, machine: &mut Machine) {
+    let domains = u32::from(machine.domain_count);
+    let segments = u32::from(machine.segment_count);
+    match rng.below(7) {
+        0 => {
+            let row = &mut machine.domains[rng.below(domains) as usize];
+            row.rights[rng.below(segments) as usize] = rng.below(16) as u8;
+        }
+        1 => {
+            let register = rng.below(8) as usize;
+            machine.pointers[register] = pointer(rng, machine);
+        }
+        2 => machine.a = rng.word(),
+        3 if usize::from(machine.frame_count) < FRAMES => {
+            let frame = frame(rng, machine);
+            machine.frames[usize::from(machine.frame_count)] = frame;
+            machine.frame_count += 1;
+        }
+        4 => machine.domain = rng.below(domains) as u8,
+        5 => {
+            let place = pointer(rng, machine);
+            machine.location.segment = place.segment;
+            machine.location.word = place.word + u16::from(place.word == 4095);
+        }
+        _ => change_capability(rng, machine),
+    }
+}
+
+/// Replaces a capability of the live frame, if there is one.
+fn change_capability(rng: &mut Rng, machine: &mut Machine) {
+    if machine.frame_count == 0 {
+        return;
+    }
+    let new = capability(rng, machine);
+    let live = &mut machine.frames[usize::from(machine.frame_count) - 1];
+    let count = u32::from(live.capability_count);
+    live.capabilities[rng.below(count) as usize] = new;
+}
+
+/// A pointer that mostly names an existing word.
+fn pointer(rng: &mut Rng, machine: &Machine) -> Pointer {
+    let tag = rng.chance(50);
+    let segment = rng.below(u32::from(machine.segment_count)) as u8;
+    let length = machine.segments[usize::from(segment)].length;
+    let (segment, word) = match rng.below(12) {
+        0 => (rng.below(16) as u8, rng.below(4096) as u16),
+        1 => (segment, length.min(4095)),
+        _ => (segment, rng.below(u32::from(length)) as u16),
+    };
+    Pointer { tag, segment, word }
+}
+
+/// A capability in its ranges.
+fn capability(rng: &mut Rng, machine: &Machine) -> Capability {
+    let place = pointer(rng, machine);
+    let room = 4096 - u32::from(place.word);
+    let flags = rng.between(1, 3);
+    Capability {
+        segment: place.segment,
+        word: place.word,
+        length: rng.between(1, room.min(12)) as u16,
+        read: flags & 1 != 0,
+        write: flags & 2 != 0,
+        source: rng.below(u32::from(machine.domain_count)) as u8,
+    }
+}
+
+/// A frame in its ranges.
+fn frame(rng: &mut Rng, machine: &Machine) -> Frame {
+    let count = rng.between(1, CAPABILITIES as u32);
+    let mut frame = Frame {
+        capability_count: count as u8,
+        return_location: pointer(rng, machine),
+        s: machine.pointers[1],
+        domain: rng.below(u32::from(machine.domain_count)) as u8,
+        ..Frame::default()
+    };
+    frame.return_location.tag = false;
+    for row in &mut frame.capabilities[..count as usize] {
+        *row = capability(rng, machine);
+    }
+    frame
+}

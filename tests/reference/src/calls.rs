@@ -1,0 +1,190 @@
+//! Transfers: JUMP, CALL with its argument list, and RET.
+
+use crate::checks::{has_flag, pass_on, static_check, word_exists, Flag};
+use crate::instructions::Completed;
+use crate::numbers::Fault;
+use crate::record::{
+    Capability, Frame, Location, ACTIVATION_POINTER, ARGUMENT_POINTER, FRAMES, STACK_BASE,
+};
+use crate::run::Processor;
+use crate::words::{Mode, Pointer};
+
+/// Most arguments of a call.
+const ARGUMENTS: u32 = 8;
+
+impl Processor<'_> {
+    /// JUMP: an untagged pointer, then static E.
+    #[inline]
+    pub(crate) fn jump(&mut self, target: Pointer) -> Result<Completed, Fault> {
+        if target.tag {
+            return Err(Fault::TaggedTransfer);
+        }
+        let domain = self.machine.domain;
+        static_check(
+            self.machine,
+            domain,
+            target.segment,
+            target.word,
+            Flag::Execute,
+        )?;
+        self.go_to(target);
+        Ok(Completed::Plain)
+    }
+
+    /// CALL: inside the domain where it has E, else through a gate.
+    pub(crate) fn call(&mut self, target: Pointer) -> Result<Completed, Fault> {
+        if target.tag {
+            return Err(Fault::TaggedTransfer);
+        }
+        if !word_exists(self.machine, target.segment, target.word) {
+            return Err(Fault::NoSuchWord);
+        }
+        let domain = self.machine.domain;
+        if has_flag(self.machine, domain, target.segment, Flag::Execute) {
+            self.go_to(target);
+            self.set_stack_base();
+            return Ok(Completed::Plain);
+        }
+        self.call_gate(target)
+    }
+
+    /// The rest of a CALL of an existing word on which the domain has no E.
+    fn call_gate(&mut self, target: Pointer) -> Result<Completed, Fault> {
+        let row = self.machine.segments[usize::from(target.segment)];
+        if !has_flag(
+            self.machine,
+            self.machine.domain,
+            target.segment,
+            Flag::Gate,
+        ) {
+            return Err(Fault::FlagMissing);
+        }
+        if target.word >= row.gate_count {
+            return Err(Fault::NotAGate);
+        }
+        if usize::from(self.machine.frame_count) >= FRAMES {
+            return Err(Fault::NoFreeFrame);
+        }
+        let frame = self.new_frame()?;
+        let machine = &mut *self.machine;
+        machine.frames[usize::from(machine.frame_count)] = frame;
+        machine.frame_count += 1;
+        machine.pointers[ARGUMENT_POINTER].tag = true;
+        machine.domain = row.gate_domain;
+        self.go_to(target);
+        self.set_stack_base();
+        Ok(Completed::Called)
+    }
+
+    /// The frame that the argument list at a asks for. Each word is judged
+    /// before the next is read.
+    fn new_frame(&self) -> Result<Frame, Fault> {
+        let n = self.list_word(0)?;
+        if n > ARGUMENTS {
+            return Err(Fault::BadList);
+        }
+        let return_location = Pointer::from_word(self.list_word(1)?)?;
+        if return_location.tag {
+            return Err(Fault::BadList);
+        }
+        self.list_pointer(2)?;
+        let mut frame = Frame {
+            return_location,
+            s: self.machine.pointers[ACTIVATION_POINTER],
+            domain: self.machine.domain,
+            ..Frame::default()
+        };
+        for k in 0..n as usize {
+            frame.capabilities[k] = self.argument(k as i16)?;
+        }
+        frame.capabilities[n as usize] = self.list_capability(n as u16);
+        frame.capability_count = n as u8 + 1;
+        Ok(frame)
+    }
+
+    /// The pointer to word `k` of the argument list, which has a's tag.
+    fn list_pointer(&self, k: i16) -> Result<Pointer, Fault> {
+        self.machine.pointers[ARGUMENT_POINTER].plus(k)
+    }
+
+    /// Word `k` of the argument list, read by the caller under a's tag.
+    fn list_word(&self, k: i16) -> Result<u32, Fault> {
+        self.load(self.list_pointer(k)?)
+    }
+
+    /// The capability for argument `k`: the caller's own, or passed on.
+    fn argument(&self, k: i16) -> Result<Capability, Fault> {
+        let pointer = Pointer::from_word(self.list_word(3 + 2 * k)?)?;
+        let mode = Mode::from_word(self.list_word(4 + 2 * k)?, pointer.word)?;
+        let source = if pointer.tag {
+            pass_on(self.machine, pointer, mode)?
+        } else {
+            self.machine.domain
+        };
+        Ok(Capability {
+            segment: pointer.segment,
+            word: pointer.word,
+            length: mode.length,
+            read: mode.read,
+            write: mode.write,
+            source,
+        })
+    }
+
+    /// The read capability for the list itself, 3 + 2n words, source the
+    /// caller.
+    fn list_capability(&self, n: u16) -> Capability {
+        let list = self.machine.pointers[ARGUMENT_POINTER];
+        Capability {
+            segment: list.segment,
+            word: list.word,
+            length: 3 + 2 * n,
+            read: true,
+            write: false,
+            source: self.machine.domain,
+        }
+    }
+
+    /// RET: untagged it is JUMP; tagged it goes back to the recorded place.
+    pub(crate) fn ret(&mut self, target: Pointer) -> Result<Completed, Fault> {
+        if !target.tag {
+            return self.jump(target);
+        }
+        let s_now = self.machine.pointers[ACTIVATION_POINTER];
+        let frame = self.machine.live_frame().ok_or(Fault::BadReturn)?;
+        if !target.same_place(frame.return_location) || !s_now.same_place(frame.s) {
+            return Err(Fault::BadReturn);
+        }
+        let (s, domain) = (frame.s, frame.domain);
+        static_check(
+            self.machine,
+            domain,
+            target.segment,
+            target.word,
+            Flag::Execute,
+        )?;
+        let machine = &mut *self.machine;
+        machine.frame_count -= 1;
+        machine.frames[usize::from(machine.frame_count)] = Frame::default();
+        machine.pointers[ACTIVATION_POINTER] = s;
+        machine.domain = domain;
+        self.go_to(target);
+        self.set_stack_base();
+        Ok(Completed::Returned)
+    }
+
+    /// Sets the location to the place that a pointer names.
+    #[inline]
+    fn go_to(&mut self, target: Pointer) {
+        self.machine.location = Location {
+            segment: target.segment,
+            word: target.word,
+        };
+    }
+
+    /// Sets b, untagged, to word 0 of the executing domain's stack segment.
+    fn set_stack_base(&mut self) {
+        let row = self.machine.domains[usize::from(self.machine.domain)];
+        self.machine.pointers[STACK_BASE] = Pointer::untagged(row.stack_segment, 0);
+    }
+}

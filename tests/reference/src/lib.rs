@@ -1,0 +1,32 @@
+//! The multidomain processor, written plainly from its description.
+//!
+//! One module for each part of the description. A `Machine` may hold any
+//! values at all; the calls of a host refuse one that is not sound with 9.
+//! What every instruction goes through is always inlined.
+
+pub mod calls;
+pub mod checks;
+pub mod image;
+pub mod instructions;
+pub mod numbers;
+pub mod pointers;
+pub mod record;
+pub mod report;
+pub mod run;
+pub mod soundness;
+pub mod words;
+
+pub use checks::{could_write, may_see};
+pub use image::{read_image, segment, segment_number, write_image};
+pub use instructions::Completed;
+pub use numbers::{Fault, Refusal};
+pub use record::{machine_from_bytes, record_bytes, Machine};
+pub use run::{run, step, stretch, Ending, Processor, Run, Step};
+pub use soundness::is_sound;
+
+/// Fewest words that a memory may have.
+pub const MEMORY_WORDS: usize = 8192;
+/// Most words of one segment.
+pub const SEGMENT_WORDS: u16 = 4096;
+/// Bytes of the longest image.
+pub const LONGEST_IMAGE: usize = 33_080;

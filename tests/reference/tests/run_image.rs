@@ -1,0 +1,43 @@
+//! The program that reads an image from standard input.
+
+use std::io::Write;
+use std::process::{Command, Stdio};
+
+/// What the program prints for these bytes.
+fn output(input: &[u8]) -> String {
+    let mut child = Command::new(env!("CARGO_BIN_EXE_run_image"))
+        .stdin(Stdio::piped())
+        .stdout(Stdio::piped())
+        .spawn()
+        .expect("the program starts");
+    // The program may stop reading before all is written.
+    let _ = child.stdin.take().expect("piped").write_all(input);
+    let output = child.wait_with_output().expect("the program ends");
+    assert!(output.status.success());
+    String::from_utf8(output.stdout).expect("plain text")
+}
+
+/// One segment, one domain; the only word is HALT.
+const HALTING: [u8; 34] = [
+    8, 0, 1, 0, 1, 1, 0, 0, 0, 0, 0, 0, //
+    8, 0, 2, 0, 0, 0, 0, 0, 0, 0, 0, 0, //
+    2, 0, 3, 0, 0, 4, //
+    0, 0, 4, 0,
+];
+
+#[test]
+fn prints_the_result_of_a_run() {
+    let expected = "end halted\ncount 1\ndomain 0\nat 0 0\na 0\n";
+    assert_eq!(output(&HALTING), expected);
+}
+
+#[test]
+fn prints_a_refusal_alone() {
+    assert_eq!(output(&[]), "refused 1\n");
+    let mut longer = HALTING.to_vec();
+    longer.push(0);
+    assert_eq!(output(&longer), "refused 6\n");
+    longer.resize(200_000, 0);
+    assert_eq!(output(&longer), "refused 6\n");
+    assert_eq!(output(&[0; 100_000]), "refused 2\n");
+}

@@ -1,0 +1,198 @@
+//! Which records are sound, field by field, and that every call refuses the
+//! others with 9 and leaves all as it was.
+
+use assembler::{R, W};
+use reference::{is_sound, Machine, Refusal};
+use scenarios::*;
+
+/// A sound record with two frames in use.
+fn sound() -> Machine {
+    let mut bench = world(&[]);
+    bench.push_frame(frame(0, &[capability(3, 4, 4, R, 1)]));
+    bench.push_frame(frame(
+        1,
+        &[capability(3, 4, 4, W, 1), capability(4, 0, 3, R, 0)],
+    ));
+    bench.machine
+}
+
+/// Makes one change and says whether the record is then sound.
+fn after(change: impl FnOnce(&mut Machine)) -> bool {
+    let mut machine = sound();
+    assert!(is_sound(&machine));
+    change(&mut machine);
+    is_sound(&machine)
+}
+
+#[test]
+fn counts_and_unused_rows() {
+    assert!(!after(|m| m.segment_count = 0));
+    assert!(!after(|m| m.segment_count = 4), "row 4 is then unused");
+    assert!(!after(|m| m.segment_count = 6), "row 5 has no words");
+    assert!(!after(|m| m.segment_count = 17));
+    assert!(!after(|m| m.segment_count = 255));
+    assert!(!after(|m| m.domain_count = 0));
+    assert!(!after(|m| m.domain_count = 1));
+    assert!(after(|m| m.domain_count = 3), "a row of zeros is a domain");
+    assert!(!after(|m| m.domain_count = 9));
+    assert!(!after(|m| m.domain_count = 255));
+    assert!(!after(|m| m.segments[5].length = 1));
+    assert!(!after(|m| m.segments[15].gate_count = 1));
+    assert!(!after(|m| m.segments[15].gate_domain = 1));
+    assert!(!after(|m| m.domains[2].stack_segment = 1));
+    assert!(!after(|m| m.domains[7].rights[15] = 1));
+}
+
+#[test]
+fn segments() {
+    assert!(!after(|m| m.segments[1].length = 0));
+    assert!(after(|m| m.segments[1].length = 4066), "8,192 in all");
+    assert!(!after(|m| m.segments[1].length = 4067), "8,193 in all");
+    assert!(!after(|m| m.segments[4].length = 4097));
+    assert!(after(|m| m.segments[1].gate_count = 10));
+    assert!(!after(|m| m.segments[1].gate_count = 11));
+    assert!(!after(|m| m.segments[1].gate_domain = 2), "no gates, yet");
+    assert!(!after(|m| m.segments[2].gate_domain = 200));
+}
+
+#[test]
+fn domains() {
+    assert!(after(|m| m.domains[1].stack_segment = 4));
+    assert!(!after(|m| m.domains[1].stack_segment = 5));
+    assert!(after(|m| m.domains[1].rights[0] = 15));
+    assert!(!after(|m| m.domains[1].rights[0] = 16));
+    assert!(!after(|m| m.domains[1].rights[5] = 1), "absent segment");
+}
+
+#[test]
+fn registers() {
+    assert!(after(|m| m.a = u32::MAX));
+    assert!(after(|m| m.pointers[2] = tagged_at(15, 4095)), "any b");
+    assert!(!after(|m| m.pointers[7].segment = 16));
+    assert!(!after(|m| m.pointers[0].word = 4096));
+    assert!(after(|m| m.location.segment = 15), "absent segment");
+    assert!(!after(|m| m.location.segment = 16));
+    assert!(after(|m| m.location.word = 4096));
+    assert!(!after(|m| m.location.word = 4097));
+    assert!(after(|m| m.domain = 1));
+    assert!(!after(|m| m.domain = 2));
+    assert!(!after(|m| m.start_domain = 2));
+    assert!(!after(|m| m.start.segment = 5));
+    assert!(after(|m| m.start.word = 4095), "need not exist");
+    assert!(!after(|m| m.start.word = 4096));
+}
+
+#[test]
+fn a_location_in_an_absent_segment_faults_at_the_fetch() {
+    let mut bench = world(&[]);
+    bench.machine.location.segment = 15;
+    bench.faults(21);
+}
+
+#[test]
+fn frames() {
+    assert!(!after(|m| m.frame_count = 1), "the second row isn't zero");
+    assert!(
+        !after(|m| m.frame_count = 3),
+        "a zero row has no capability"
+    );
+    assert!(!after(|m| m.frame_count = 255));
+    assert!(!after(|m| m.frames[0].capability_count = 0));
+    assert!(!after(|m| m.frames[1].capability_count = 1));
+    assert!(!after(|m| m.frames[1].capability_count = 3));
+    assert!(!after(|m| m.frames[1].capability_count = 255));
+    assert!(!after(|m| m.frames[0].domain = 2));
+    assert!(!after(|m| m.frames[0].return_location.tag = true));
+    assert!(after(
+        |m| m.frames[0].return_location = untagged_at(15, 4095)
+    ));
+    assert!(!after(|m| m.frames[0].return_location.segment = 16));
+    assert!(!after(|m| m.frames[0].return_location.word = 4096));
+    assert!(after(|m| m.frames[0].s = tagged_at(15, 4095)));
+    assert!(!after(|m| m.frames[0].s.segment = 16));
+    assert!(!after(|m| m.frames[0].s.word = 4096));
+    assert!(!after(|m| m.frames[7].domain = 1), "a free frame");
+    assert!(!after(|m| m.frames[2].s.tag = true), "a free frame");
+    assert!(!after(|m| m.frames[0].capabilities[8].source = 1));
+    let nine = |m: &mut Machine| m.frames[1] = frame(1, &[capability(3, 4, 4, W, 1); 9]);
+    assert!(after(nine));
+}
+
+#[test]
+fn capabilities() {
+    let with = |segment, word, length, flags, source| {
+        let row = capability(segment, word, length, flags, source);
+        after(|m| m.frames[0].capabilities[0] = row)
+    };
+    assert!(!with(3, 4, 4, 0, 1), "no flag");
+    assert!(!with(3, 4, 0, R, 1), "no word");
+    assert!(with(3, 0, 4096, R | W, 1), "need not exist");
+    assert!(!with(3, 0, 4097, R, 1));
+    assert!(!with(3, 1, 4096, R, 1));
+    assert!(with(3, 4095, 1, R, 1));
+    assert!(!with(3, 4096, 1, R, 1));
+    assert!(!with(3, 65_535, 65_535, R, 1));
+    assert!(with(15, 4, 4, R, 1), "absent segment");
+    assert!(!with(16, 4, 4, R, 1));
+    assert!(!with(99, 4, 4, R, 1));
+    assert!(!with(3, 4, 4, R, 2), "absent source");
+    assert!(with(3, 4, 4, W, 1), "the last need not be the list");
+}
+
+#[test]
+fn every_call_refuses_an_unsound_record() {
+    let mut machine = sound();
+    machine.domain = 200;
+    machine.location.segment = 99;
+    machine.frame_count = 255;
+    let before = machine.clone();
+    let mut memory = vec![7; 8192];
+    let mut output = vec![1; 40_000];
+    let step = reference::step(&mut machine, &mut memory);
+    assert_eq!((step.number, step.halted), (9, false));
+    let run = reference::run(&mut machine, &mut memory, 0);
+    assert_eq!(run, Err(Refusal::NotSound));
+    let stretch = reference::stretch(&mut machine, &mut memory, 1);
+    assert_eq!(stretch, Err(Refusal::NotSound));
+    let written = reference::write_image(&machine, &memory, &mut output);
+    assert_eq!(written, Err(Refusal::NotSound));
+    assert_eq!(reference::segment_number(&machine, &memory, 0), 9);
+    assert!(reference::segment(&machine, &memory, 0).is_empty());
+    assert_eq!(machine, before);
+    assert_eq!(memory, vec![7; 8192]);
+    assert_eq!(output, vec![1; 40_000]);
+}
+
+#[test]
+fn the_checks_answer_for_any_record() {
+    let mut machine = sound();
+    machine.segment_count = 255;
+    machine.domain_count = 255;
+    machine.domain = 200;
+    machine.frame_count = 255;
+    for segment in 0..=255 {
+        for word in [0, 4095, 65_535] {
+            assert!(!reference::may_see(&machine, segment, word));
+            assert!(!reference::could_write(&machine, segment, word));
+        }
+    }
+    machine.frame_count = 2;
+    machine.frames[1].capability_count = 255;
+    assert!(reference::could_write(&machine, 3, 4));
+}
+
+#[test]
+fn records_as_bytes() {
+    let machine = sound();
+    let bytes = reference::record_bytes(&machine);
+    assert_eq!(bytes.len(), 919);
+    assert_eq!(&bytes[..7], &[5, 2, 10, 0, 0, 0, 0]);
+    assert_eq!(reference::machine_from_bytes(&bytes), Some(machine));
+    assert_eq!(reference::machine_from_bytes(&bytes[1..]), None);
+    let flag = 2 + 80 + 136 + 4;
+    for value in [2, 255] {
+        let mut bytes = bytes.clone();
+        bytes[flag] = value;
+        assert_eq!(reference::machine_from_bytes(&bytes), None);
+    }
+}
