@@ -3,3 +3,4 @@ pub mod Static
 pub mod Search
 pub mod Live
 pub mod Reference
+pub mod Machine

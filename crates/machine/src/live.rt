@@ -4,10 +4,10 @@ ghost use Rattle.machine.specs.Live.{liveOf, passedOf, sourceAnswer};
 ghost use Rattle.machine.specs.Flag.{isRead};
 use crate::flag::Access;
 use crate::flag::asked;
-use state::record::Frame;
 use crate::search::CapabilityAnswer;
 use crate::search::search;
 use crate::statics::static_check;
+use state::record::Frame;
 
 // What passing an argument on gives: the source of the capability that covers it, or the refusal 24.
 pub enum SourceAnswer {
@@ -25,7 +25,15 @@ fn is_read(access: Access) -> bool
 }
 
 // 0, or 24 where no capability of the live frame matches or there is no frame, or 25 where the first match's source fails its static check.
-pub fn live_check<'a>(lengths: &'a [u16; 16], rights: &'a [u8; 128], depth: u8, frame: Frame, access: Access, segment: u8, word: u16) -> u8
+pub fn live_check<'a>(
+    lengths: &'a [u16; 16],
+    rights: &'a [u8; 128],
+    depth: u8,
+    frame: Frame,
+    access: Access,
+    segment: u8,
+    word: u16,
+) -> u8
     ensures { λ r. ⌜ r ≡ liveOf (now (lengths .entry)) (now (rights .entry)) depth frame access segment word ⌝ }
 {
     if depth == 0 {
@@ -36,20 +44,40 @@ pub fn live_check<'a>(lengths: &'a [u16; 16], rights: &'a [u8; 128], depth: u8, 
     match search(capabilities, frame.count, segment, word, 1, read, !read) {
         CapabilityAnswer::Refused(n) => n,
         CapabilityAnswer::Capability(c) => {
-            if static_check(lengths, rights, c.source, asked(access), segment, word) == 0 { 0 } else { 25 }
+            if static_check(lengths, rights, c.source, asked(access), segment, word) == 0 {
+                0
+            } else {
+                25
+            }
         }
     }
 }
 
 // The source of the first capability of the live frame that covers a whole argument with all flags asked.
-pub fn pass_on(depth: u8, frame: Frame, segment: u8, word: u16, length: u16, read: bool, write: bool) -> SourceAnswer
+pub fn pass_on(
+    depth: u8,
+    frame: Frame,
+    segment: u8,
+    word: u16,
+    length: u16,
+    read: bool,
+    write: bool,
+) -> SourceAnswer
     ensures { λ r. ⌜ sourceAnswer r ≡ passedOf depth frame segment word length read write ⌝ }
 {
     if depth == 0 {
         return SourceAnswer::Refused(24);
     }
     let capabilities = frame.capabilities;
-    match search(capabilities, frame.count, segment, word, length, read, write) {
+    match search(
+        capabilities,
+        frame.count,
+        segment,
+        word,
+        length,
+        read,
+        write,
+    ) {
         CapabilityAnswer::Refused(n) => SourceAnswer::Refused(n),
         CapabilityAnswer::Capability(c) => SourceAnswer::Source(c.source),
     }

@@ -37,7 +37,15 @@ pub fn covers(c: Capability, segment: u8, word: u16, length: u16, read: bool, wr
 }
 
 // The first of a frame's count capabilities that covers the words with the flags asked.
-pub fn search(capabilities: [Capability; 9], count: u8, segment: u8, word: u16, length: u16, read: bool, write: bool) -> CapabilityAnswer
+pub fn search(
+    capabilities: [Capability; 9],
+    count: u8,
+    segment: u8,
+    word: u16,
+    length: u16,
+    read: bool,
+    write: bool,
+) -> CapabilityAnswer
     ensures { λ r. ⌜ capabilityAnswer r ≡ firstOf (coversOf segment word length read write) (take count capabilities) ⌝ }
 {
     let mut i = 0u8;

@@ -5,7 +5,14 @@ use crate::flag::Flag;
 use crate::flag::allows;
 
 // 0, or 21 where there is no such segment or word, or 22 where the flag is missing.
-pub fn static_check<'a>(lengths: &'a [u16; 16], rights: &'a [u8; 128], domain: u8, flag: Flag, segment: u8, word: u16) -> u8
+pub fn static_check<'a>(
+    lengths: &'a [u16; 16],
+    rights: &'a [u8; 128],
+    domain: u8,
+    flag: Flag,
+    segment: u8,
+    word: u16,
+) -> u8
     ensures { λ r. ⌜ r ≡ staticOf (now (lengths .entry)) (now (rights .entry)) domain flag segment word ⌝ }
 {
     if 16 <= segment {

@@ -40,7 +40,13 @@ fn segment_sound(segments: u8, domains: u8, i: u8, length: u16, gates: u16, doma
     }
 }
 
-fn segments_sound<'a>(segments: u8, domains: u8, lengths: &'a [u16; 16], gates: &'a [u16; 16], gatedomains: &'a [u8; 16]) -> bool
+fn segments_sound<'a>(
+    segments: u8,
+    domains: u8,
+    lengths: &'a [u16; 16],
+    gates: &'a [u16; 16],
+    gatedomains: &'a [u8; 16],
+) -> bool
     ensures { λ r. ⌜ r ≡ allFrom 16 0 (λ i. segmentTest segments domains i (getD (now (lengths .entry)) i 0) (getD (now (gates .entry)) i 0) (getD (now (gatedomains .entry)) i 0)) ⌝ }
 {
     let mut i = 0u8;

@@ -2,11 +2,12 @@
 use Prim.Native.Nat.{ℕ, _-_}
 use mathlib.Core.Bool.{false}
 use mathlib.Core.List.{List, []}
+use lib.Dec.{leb}
 use lib.ListN.{getD}
+use Rattle.words.specs.Answer.{if_then_else_}
 use Rattle.words.specs.declared.pointer.Pointer.{Pointer}
 use Rattle.state.specs.declared.record.Capability.{Capability}
 use Rattle.state.specs.declared.record.Frame.{Frame}
-use Rattle.state.specs.declared.record.Machine.{Machine}
 
 -- what lies past the end of an array of pointers, of capabilities, of frames
 abbrev pub noPointer : Pointer
@@ -18,6 +19,10 @@ noCapability = record { word = 0; length = 0; segment = 0; source = 0; read = fa
 abbrev pub noFrame : Frame
 noFrame = record { capabilities = []; s = noPointer; back = noPointer; count = 0; domain = 0 }
 
--- the newest frame in use
-abbrev pub liveFrame : Machine → Frame
-liveFrame m = getD (m .frames) (m .depth - 1) noFrame
+-- how many frames are in use; a depth past eight, which no sound record has, counts as none
+abbrev pub inUse : ℕ → ℕ
+inUse depth = if leb depth 8 then depth else 0
+
+-- the newest frame in use, the live frame, where there is one
+abbrev pub liveFrame : ℕ → List Frame → Frame
+liveFrame depth frames = getD frames (inUse depth - 1) noFrame

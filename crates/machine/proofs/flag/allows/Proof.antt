@@ -1,5 +1,8 @@
 -- `machine::flag::allows` meets its contract.
+use native.Mathlib.Nat.{div-one}
+use mathlib.Core.Path.{refl}
 use borrow.Author.Needs.{needs}
+use Rattle.machine.specs.Flag.{has}
 use Rattle.machine.proofs.flag.allows.Statement.{statement}
 use Rattle.machine.proofs.flag.allows.Tie as tie
 
@@ -16,16 +19,20 @@ enum-told-4 : tie.Need-enum-told-4
 enum-told-4 c = search needs
 
 returns : tie.Need-returns
-returns c = ?
+unfolding has
+returns c = simp (c .enum-told .given .1, div-one)
 
 returns-2 : tie.Need-returns-2
-returns-2 c = ?
+unfolding has
+returns-2 c = simp (c .enum-told2 .given .1)
 
 returns-3 : tie.Need-returns-3
-returns-3 c = ?
+unfolding has
+returns-3 c = simp (c .enum-told3 .given .1)
 
 returns-4 : tie.Need-returns-4
-returns-4 c = ?
+unfolding has
+returns-4 c = simp (c .enum-told4 .given .1)
 
 pub allows-spec : {M : Type 1} → statement M
 allows-spec =

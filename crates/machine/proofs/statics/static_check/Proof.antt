@@ -1,10 +1,15 @@
 -- `machine::statics::static_check` meets its contract.
+use mathlib.Core.Path.{sym, _∙_}
 use borrow.Author.Needs.{needs}
+use borrow.Author.Tests.{lt-ltb, le-ltb}
+use Rattle.machine.specs.Static.{staticOf, exists, rightsOf}
+use Rattle.machine.proofs.Rights.{no-rights}
 use Rattle.machine.proofs.statics.static_check.Statement.{statement}
 use Rattle.machine.proofs.statics.static_check.Tie as tie
 
 returns : tie.Need-returns
-returns c = ?
+unfolding staticOf exists rightsOf
+returns c = simp (le-ltb _ _ (c .if1 .taken))
 
 mul-if2 : tie.Need-mul-if2
 mul-if2 c = search needs
@@ -13,10 +18,12 @@ element-copy-out-if2 : tie.Need-element-copy-out-if2
 element-copy-out-if2 c = search needs
 
 returns-2 : tie.Need-returns-2
-returns-2 c = ?
+unfolding staticOf exists rightsOf
+returns-2 c = simp (lt-ltb _ _ (c .before .before .if1 .left), le-ltb _ _ (c .if2 .taken))
 
 returns-3 : tie.Need-returns-3
-returns-3 c = ?
+unfolding staticOf exists rightsOf
+returns-3 c = simp (lt-ltb _ _ (c .before .before .before .if1 .left), lt-ltb _ _ (c .before .if2 .left), le-ltb _ _ (c .if3 .taken), no-rights)
 
 mul-k : tie.Need-mul-k
 mul-k c = search needs
@@ -31,10 +38,16 @@ allows-requires : tie.Need-allows-requires
 allows-requires c κs = search needs
 
 returns-4 : tie.Need-returns-4
-returns-4 c = ?
+unfolding staticOf exists rightsOf
+returns-4 c =
+    let e = c .before .before .before in
+    simp (lt-ltb _ _ (e .before .before .before .if1 .left), lt-ltb _ _ (e .before .if2 .left), lt-ltb _ _ (e .if3 .left), sym (c .before .allows .ensures) ∙ c .if4 .taken)
 
 returns-5 : tie.Need-returns-5
-returns-5 c = ?
+unfolding staticOf exists rightsOf
+returns-5 c =
+    let e = c .before .before .before in
+    simp (lt-ltb _ _ (e .before .before .before .if1 .left), lt-ltb _ _ (e .before .if2 .left), lt-ltb _ _ (e .if3 .left), sym (c .before .allows .ensures) ∙ c .if4 .left)
 
 pub static-check-spec : {M : Type 1} → statement M
 static-check-spec =

@@ -16,12 +16,13 @@ abbrev μ-loop : tie.MeasureT-loop
 
 loop-holds : tie.Need-loop-holds Inv-loop μ-loop
 loop-holds c =
-    record
-      { some = search needs
-      ; most = search needs
-      ; room = refl
-      ; values = λ k h. let z : k ≡ 0 = omega arith in rw z (sym (base-zero _))
-      ; small = λ k h. let z : k ≡ 0 = omega arith in rw (z, base-zero (c .args .lengths .now)) (omega arith) }
+    record {
+      some = search needs;
+      most = search needs;
+      room = refl;
+      values = λ k h. let z : k ≡ 0 = omega arith in rw z (sym (base-zero _));
+      small = λ k h. let z : k ≡ 0 = omega arith in rw (z, base-zero (c .args .lengths .now)) (omega arith);
+    }
 
 sub-sums : tie.Need-sub-sums Inv-loop μ-loop
 sub-sums c = search needs

@@ -1,0 +1,4 @@
+pub mod First
+pub mod Passes
+pub mod Places
+pub mod Rights

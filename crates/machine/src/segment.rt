@@ -1,1 +1,0 @@
-// The part of the memory that a segment occupies.

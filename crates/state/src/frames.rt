@@ -1,0 +1,24 @@
+// The frames of a record.
+ghost use mathlib.Core.Path.{_≡_};
+ghost use Prim.Native.Nat.{_≤_};
+ghost use Rattle.state.specs.Record.{inUse, liveFrame};
+use crate::record::Frame;
+
+// How many frames are in use; a depth past eight, which no sound record has, counts as none.
+pub fn in_use(depth: u8) -> u8
+    ensures { λ r. ⌜ (r ≡ inUse depth) × (r ≤ 8) ⌝ }
+{
+    if depth <= 8 { depth } else { 0 }
+}
+
+// The newest frame in use, the live frame; frame 0 where none is in use.
+pub fn live_frame(frames: [Frame; 8], depth: u8) -> Frame
+    ensures { λ r. ⌜ r ≡ liveFrame depth frames ⌝ }
+{
+    let n = in_use(depth);
+    if n == 0 {
+        return frames[0];
+    }
+    let k = (n - 1) as usize;
+    frames[k]
+}
