@@ -1,6 +1,42 @@
 -- The returned numbers, each named once.
 use Prim.Native.Nat.{ℕ}
 
+-- chunk header or body cut short
+abbrev pub cutShort : ℕ
+cutShort = 1
+
+-- kind not the one due
+abbrev pub wrongKind : ℕ
+wrongKind = 2
+
+-- length wrong for the kind
+abbrev pub wrongLength : ℕ
+wrongLength = 3
+
+-- a field outside its range
+abbrev pub badField : ℕ
+badField = 4
+
+-- words pass 8,192
+abbrev pub tooManyWords : ℕ
+tooManyWords = 5
+
+-- bytes after kind 4
+abbrev pub bytesLeft : ℕ
+bytesLeft = 6
+
+-- lent memory below 8,192 words
+abbrev pub memoryTooShort : ℕ
+memoryTooShort = 7
+
+-- output buffer too short
+abbrev pub outputTooShort : ℕ
+outputTooShort = 8
+
+-- machine record not sound
+abbrev pub notSound : ℕ
+notSound = 9
+
 -- no such segment or word
 abbrev pub noWord : ℕ
 noWord = 21
@@ -29,6 +65,22 @@ badPointer = 26
 abbrev pub badInstruction : ℕ
 badInstruction = 27
 
+-- JUMP or CALL through a tagged pointer
+abbrev pub taggedTransfer : ℕ
+taggedTransfer = 28
+
+-- word not a gate
+abbrev pub notGate : ℕ
+notGate = 29
+
 -- n above 8, tagged return location, bad mode word
 abbrev pub badArgument : ℕ
 badArgument = 30
+
+-- eight frames in use
+abbrev pub noFreeFrame : ℕ
+noFreeFrame = 31
+
+-- tagged RET with no frame or another place or s
+abbrev pub badReturn : ℕ
+badReturn = 32

@@ -1,5 +1,6 @@
 // The signed offset of an instruction, and what is added up with it.
 ghost use mathlib.Core.Path.{_≡_};
+ghost use lib.IntN.{pos};
 ghost use Rattle.words.specs.Offset.{displacedOf, literalOf, wordAnswer};
 
 // What a sum gives: a word number 0-4,095, or the refusal 23.
@@ -22,6 +23,17 @@ pub fn displace(word: u16, offset: i32) -> WordAnswer
     if at < 0 {
         return WordAnswer::Refused(23);
     }
+    if 4095 < at {
+        return WordAnswer::Refused(23);
+    }
+    WordAnswer::Word(at as u16)
+}
+
+// A word number plus a count.
+pub fn climb(word: u16, count: u16) -> WordAnswer
+    ensures { λ r. ⌜ wordAnswer r ≡ displacedOf word (pos count) ⌝ }
+{
+    let at = word as u32 + count as u32;
     if 4095 < at {
         return WordAnswer::Refused(23);
     }

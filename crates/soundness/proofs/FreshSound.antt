@@ -1,0 +1,33 @@
+-- A fresh machine of a sound layout is sound.
+use Prim.Native.Nat.{ℕ, _≤_}
+use native.Mathlib.Omega.{arith}
+use mathlib.Core.Path.{_≡_, refl}
+use mathlib.Core.Bool.{true, false}
+use borrow.Author.Tests.{le-leb}
+use lib.ListN.{replicate, set}
+use Rattle.state.specs.declared.record.Layout.{Layout}
+use Rattle.state.specs.Record.{noPointer}
+use Rattle.soundness.specs.Sound.{allFrom, layoutTest, pointerTest, pointersTest, emptyCapability, emptyPointer, emptyFrame, framesTest, soundTest}
+use Rattle.soundness.specs.Fresh.{zeroFrame, freshOf}
+use Rattle.soundness.proofs.Tests.{join}
+use Rattle.soundness.proofs.Facts.{layout-facts, facts-registers}
+
+pub zero-frame : emptyFrame zeroFrame ≡ true
+unfolding emptyFrame emptyPointer emptyCapability allFrom
+zero-frame = refl
+
+stack-pointer : (segment : ℕ) → segment ≤ 15 → pointersTest (set (replicate 8 noPointer) 2 (record { word = 0; segment = segment; tag = false })) ≡ true
+unfolding pointersTest pointerTest allFrom
+stack-pointer segment h = simp (le-leb _ _ h)
+
+no-frames : (domains : ℕ) → framesTest domains 0 (replicate 8 zeroFrame) ≡ true
+unfolding framesTest emptyFrame emptyPointer emptyCapability allFrom
+no-frames domains = refl
+
+pub fresh-sound : (l : Layout) → layoutTest l ≡ true → soundTest (freshOf l) ≡ true
+unfolding freshOf soundTest
+fresh-sound l e =
+    let f = layout-facts l e in
+    join e
+    (join (facts-registers _ _ (record { domain = f .start-domain; segment = omega arith; word = omega arith }))
+    (join (stack-pointer _ (omega (arith, f .stacks (l .start .domain) (omega arith)))) (no-frames (l .domains))))
