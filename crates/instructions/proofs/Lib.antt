@@ -1,0 +1,4 @@
+pub mod Answers
+pub mod Accesses
+pub mod Transfers
+pub mod Turns

@@ -1,0 +1,19 @@
+-- `instructions::effects::branch` meets its contract.
+use borrow.Author.Needs.{needs}
+use Rattle.instructions.proofs.effects.branch.Statement.{statement}
+use Rattle.instructions.proofs.effects.branch.Tie as tie
+
+jump-requires : tie.Need-jump-requires
+jump-requires c κs = search needs
+
+onward-requires : tie.Need-onward-requires
+onward-requires c κs = search needs
+
+returns : tie.Need-returns
+returns c = simp (c .before .if1 .taken) (c .jump .ensures)
+
+returns-2 : tie.Need-returns-2
+returns-2 c = simp (c .before .if1 .left) (c .onward .ensures)
+
+pub branch-spec : {M : Type 1} → statement M
+branch-spec = tie.close (tie.spec jump-requires onward-requires returns returns-2)

@@ -1,0 +1,48 @@
+-- `instructions::effects::load` meets its contract.
+use borrow.Author.Needs.{needs}
+use mathlib.Core.Path.{_≡_, refl, sym, ap, _∙_}
+use Rattle.instructions.specs.Turn.{turnAnswer}
+use Rattle.instructions.proofs.effects.load.Statement.{statement}
+use Rattle.instructions.proofs.effects.load.Tie as tie
+
+read-requires : tie.Need-read-requires
+read-requires c κs = search needs
+
+enum-known-n : tie.Need-enum-known-n
+enum-known-n c = search needs
+
+stay-requires : tie.Need-stay-requires
+stay-requires c κs = search needs
+
+enum-known-w : tie.Need-enum-known-w
+enum-known-w c = search needs
+
+operate-requires : tie.Need-operate-requires
+operate-requires c κs = search needs
+
+onward-requires : tie.Need-onward-requires
+onward-requires c κs = search needs
+
+returns : tie.Need-returns
+returns c =
+    let k = c .before .before in
+    ap turnAnswer (c .stay .ensures) ∙ simp (← k .before .before .read .ensures, k .n .given .1)
+
+returns-2 : tie.Need-returns-2
+returns-2 c =
+    let o = c .before in
+    let k = o .before .before in
+    c .onward .ensures ∙ simp (← k .before .before .read .ensures, k .w .given .1, o .operate .ensures)
+
+pub load-spec : {M : Type 1} → statement M
+load-spec =
+    tie.close
+    (tie.spec
+    read-requires
+    enum-known-n
+    stay-requires
+    enum-known-w
+    operate-requires
+    onward-requires
+    returns
+    returns-2)

@@ -1,0 +1,89 @@
+-- `instructions::turn::take_turn` meets its contract.
+use borrow.Author.Needs.{needs}
+use mathlib.Core.Path.{_≡_, refl, sym, ap, _∙_}
+use Rattle.instructions.specs.Instruction.{planOf}
+use Rattle.instructions.specs.Turn.{turnAnswer, turnOf, turnWords}
+use Rattle.instructions.proofs.turn.take_turn.Statement.{statement}
+use Rattle.instructions.proofs.turn.take_turn.Tie as tie
+
+fetch-requires : tie.Need-fetch-requires
+fetch-requires c κs = search needs
+
+enum-known-n : tie.Need-enum-known-n
+enum-known-n c = search needs
+
+stay-requires : tie.Need-stay-requires
+stay-requires c κs = search needs
+
+enum-known-w : tie.Need-enum-known-w
+enum-known-w c = search needs
+
+decode-requires : tie.Need-decode-requires
+decode-requires c κs = search needs
+
+enum-known-n-2 : tie.Need-enum-known-n-2
+enum-known-n-2 c = search needs
+
+stay-requires-2 : tie.Need-stay-requires-2
+stay-requires-2 c κs = search needs
+
+enum-known-i : tie.Need-enum-known-i
+enum-known-i c = search needs
+
+perform-requires : tie.Need-perform-requires
+perform-requires c κs =
+    let d = c .before .before .before .before in
+    let w = d .before .before in
+    w .before .before .fetch .ensures .1 _ (w .w .given .1)
+
+same-length : tie.Need-same-length
+same-length c = search needs
+
+returns : tie.Need-returns
+unfolding turnOf turnWords planOf
+returns c =
+    let k = c .before .before in
+    simp (← k .before .before .fetch .ensures .0, k .n .given .1) (ap turnAnswer (c .stay .ensures), refl)
+
+same-length-2 : tie.Need-same-length-2
+same-length-2 c = search needs
+
+returns-2 : tie.Need-returns-2
+unfolding turnOf turnWords planOf
+returns-2 c =
+    let k = c .before .before in
+    let d = k .before .before in
+    let w = d .before .before in
+    simp (← w .before .before .fetch .ensures .0, w .w .given .1, ← d .decode .ensures, k .n2 .given .1) (ap turnAnswer (c .stay2 .ensures), refl)
+
+same-length-3 : tie.Need-same-length-3
+same-length-3 c = search needs
+
+returns-3 : tie.Need-returns-3
+unfolding turnOf turnWords planOf
+returns-3 c =
+    let f = c .before .before in
+    let k = f .before .before .before in
+    let d = k .before .before in
+    let w = d .before .before in
+    simp (← w .before .before .fetch .ensures .0, w .w .given .1, ← d .decode .ensures, k .i .given .1) (f .perform .ensures .0, f .perform .ensures .1)
+
+pub take-turn-spec : {M : Type 1} → statement M
+take-turn-spec =
+    tie.close
+    (tie.spec
+    fetch-requires
+    enum-known-n
+    stay-requires
+    enum-known-w
+    decode-requires
+    enum-known-n-2
+    stay-requires-2
+    enum-known-i
+    perform-requires
+    same-length
+    returns
+    same-length-2
+    returns-2
+    same-length-3
+    returns-3)

@@ -1,0 +1,5 @@
+pub mod Reader
+pub mod Effective
+pub mod Plan
+pub mod Instruction
+pub mod Turn

@@ -1,0 +1,79 @@
+-- One instruction as the loop makes it: everything but a crossing.
+use Prim.Native.Nat.{ℕ, _+_}
+use mathlib.Core.Bool.{Bool, true, false}
+use mathlib.Core.List.{List}
+use Rattle.words.specs.Answer.{Answer, refuse, ok, _>>=_, if_then_else_}
+use Rattle.words.specs.declared.pointer.Pointer.{Pointer}
+use Rattle.state.specs.declared.record.Frame.{Frame}
+use Rattle.state.specs.declared.record.Registers.{Registers}
+use Rattle.machine.specs.declared.flag.Access.the-variants as access
+use Rattle.machine.specs.Reference.{verdictOf, accept}
+use Rattle.instructions.specs.declared.turn.Event.{Event}
+use Rattle.instructions.specs.declared.turn.Event.the-variants as event
+use Rattle.instructions.specs.declared.turn.Turn.{Turn}
+use Rattle.instructions.specs.Reader.{readOf, fetchOf, writtenOf}
+use Rattle.instructions.specs.Plan.{Plan, halt, move, store, enter, leave}
+use Rattle.instructions.specs.Instruction.{planOf, operateOf, withBase}
+
+-- where an instruction came to
+pub data Turned : Type 0 where
+  ended : Turned
+  moved : Registers → List Pointer → Turned
+  entering leaving : Pointer → Turned
+
+-- what the code's answer stands for
+abbrev pub eventAnswer : Registers → List Pointer → Event → Answer Turned
+eventAnswer r pointers event.Moved = ok (moved r pointers)
+eventAnswer r pointers event.Halted = ok ended
+eventAnswer r pointers (event.Entering p) = ok (entering p)
+eventAnswer r pointers (event.Leaving p) = ok (leaving p)
+eventAnswer r pointers (event.Faulted n) = refuse n
+
+abbrev pub turnAnswer : Turn → Answer Turned
+turnAnswer t = eventAnswer (t .registers) (t .pointers) (t .event)
+
+-- the registers with this A at this segment and word
+abbrev pub registersAt : Registers → ℕ → ℕ → ℕ → Registers
+registersAt r a segment word = record { a = a; word = word; segment = segment; domain = r .domain }
+
+module _ (lengths rights bases words : List ℕ) (depth : ℕ) (frame : Frame) (r : Registers) (pointers : List Pointer) where
+  -- a plan carried out, its store judged
+  abbrev pub settled : Plan → Answer Turned
+  settled halt = ok ended
+  settled (move a segment word next) = ok (moved (registersAt r a segment word) next)
+  settled (store p v) = accept (verdictOf lengths rights (r .domain) depth frame access.Write p) (moved (registersAt r (r .a) (r .segment) (r .word + 1)) pointers)
+  settled (enter p) = ok (entering p)
+  settled (leave p) = ok (leaving p)
+
+  abbrev pub settledAnswer : Answer Plan → Answer Turned
+  settledAnswer plan = plan >>= settled
+
+  -- the words after a plan
+  abbrev pub settledWords : Answer Plan → List ℕ
+  settledWords (refuse n) = words
+  settledWords (ok halt) = words
+  settledWords (ok (move a segment word next)) = words
+  settledWords (ok (store p v)) = writtenOf lengths rights bases words (r .domain) depth frame p v
+  settledWords (ok (enter p)) = words
+  settledWords (ok (leave p)) = words
+
+-- LOAD, ADD or SUB with the word read
+abbrev pub loaded : Registers → List Pointer → ℕ → Answer ℕ → Answer Turned
+loaded r pointers opcode answer = answer >>= (λ w. ok (moved (registersAt r (operateOf opcode (r .a) w) (r .segment) (r .word + 1)) pointers))
+
+-- a call whose checks are made
+abbrev pub called : Registers → List Pointer → ℕ → Pointer → Answer Bool → Answer Turned
+called r pointers stack p way =
+    way >>= (λ inside. if inside then ok (moved (registersAt r (r .a) (p .segment) (p .word)) (withBase pointers stack)) else ok (entering p))
+
+-- the instruction at the location, and the words after it
+module _ (lengths gates rights stacks bases words : List ℕ) (depth : ℕ) (frame : Frame) (r : Registers) (pointers : List Pointer) where
+  abbrev pub planned : Answer Plan
+  planned =
+      planOf lengths gates rights stacks depth r pointers (fetchOf lengths rights bases words (r .domain) (r .segment) (r .word)) (readOf lengths rights bases words (r .domain) depth frame)
+
+  unfoldable pub turnOf : Answer Turned
+  turnOf = planned >>= settled lengths rights bases words depth frame r pointers
+
+  unfoldable pub turnWords : List ℕ
+  turnWords = settledWords lengths rights bases words depth frame r pointers planned

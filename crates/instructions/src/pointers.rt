@@ -1,0 +1,46 @@
+// The eight pointer registers.
+ghost use mathlib.Core.Path.{_≡_};
+ghost use lib.ListN.{getD, set};
+ghost use Rattle.state.specs.Record.{noPointer};
+ghost use Rattle.instructions.specs.Instruction.{withBase};
+use words::pointer::Pointer;
+
+// Register k; a register that does not exist holds nothing.
+pub fn pointer_at(pointers: [Pointer; 8], k: u8) -> Pointer
+    ensures { λ r. ⌜ r ≡ getD pointers k noPointer ⌝ }
+{
+    if 8 <= k {
+        return Pointer {
+            word: 0,
+            segment: 0,
+            tag: false,
+        };
+    }
+    let i = k as usize;
+    pointers[i]
+}
+
+// The registers with p in register k.
+pub fn with_pointer(pointers: [Pointer; 8], k: u8, p: Pointer) -> [Pointer; 8]
+    ensures { λ r. ⌜ r ≡ set pointers k p ⌝ }
+{
+    let mut next = pointers;
+    if 8 <= k {
+        return next;
+    }
+    let i = k as usize;
+    next[i] = p;
+    next
+}
+
+// The registers with b at word 0 of a stack segment.
+pub fn with_base(pointers: [Pointer; 8], stack: u8) -> [Pointer; 8]
+    ensures { λ r. ⌜ r ≡ withBase pointers stack ⌝ }
+{
+    let b = Pointer {
+        word: 0,
+        segment: stack,
+        tag: false,
+    };
+    with_pointer(pointers, 2, b)
+}

@@ -1,0 +1,225 @@
+// One instruction, but for a crossing.
+ghost use mathlib.Core.Path.{_≡_};
+ghost use Prim.Native.Nat.{_<_};
+ghost use Rattle.instructions.specs.Reader.{readOf};
+ghost use Rattle.instructions.specs.Instruction.{effectOf, executeOf};
+ghost use Rattle.instructions.specs.Turn.{turnAnswer, turnOf, turnWords, settledAnswer, settledWords};
+use crate::access::WordAnswer;
+use crate::access::fetch;
+use crate::effective::effective;
+use crate::effects::branch;
+use crate::effects::call;
+use crate::effects::give_back;
+use crate::effects::jump;
+use crate::effects::load;
+use crate::effects::onward;
+use crate::effects::save;
+use crate::effects::stay;
+use crate::pointers::pointer_at;
+use crate::pointers::with_pointer;
+use state::record::Frame;
+use state::record::Registers;
+use words::instruction::Instruction;
+use words::instruction::InstructionAnswer;
+use words::instruction::decode;
+use words::offset::literal;
+use words::pointer::Pointer;
+use words::pointer::PointerAnswer;
+use words::pointer::pack;
+
+// Where an instruction came to.
+pub enum Event {
+    Moved,
+    Halted,
+    Entering(Pointer),
+    Leaving(Pointer),
+    Faulted(u8),
+}
+
+pub struct Turn {
+    pub pointers: [Pointer; 8],
+    pub registers: Registers,
+    pub event: Event,
+}
+
+// The effect of an opcode at an effective pointer.
+fn effect<'a>(
+    lengths: &'a [u16; 16],
+    gates: &'a [u16; 16],
+    rights: &'a [u8; 128],
+    stacks: &'a [u8; 8],
+    bases: &'a [u32; 16],
+    words: &mut [u32],
+    depth: u8,
+    frame: Frame,
+    r: Registers,
+    pointers: [Pointer; 8],
+    opcode: u8,
+    register: u8,
+    p: Pointer,
+) -> Turn
+    requires { ⌜ r .word < 65535 ⌝ }
+    ensures { λ t. ⌜ turnAnswer t ≡ settledAnswer (now (lengths .entry)) (now (rights .entry)) (now (bases .entry)) (now (words .entry)) depth frame r pointers (effectOf (now (lengths .entry)) (now (gates .entry)) (now (rights .entry)) (now (stacks .entry)) depth r pointers (readOf (now (lengths .entry)) (now (rights .entry)) (now (bases .entry)) (now (words .entry)) (r .domain) depth frame) opcode register p) ⌝ }
+    ensures { λ t. ⌜ now (words .exit) ≡ settledWords (now (lengths .entry)) (now (rights .entry)) (now (bases .entry)) (now (words .entry)) depth frame r pointers (effectOf (now (lengths .entry)) (now (gates .entry)) (now (rights .entry)) (now (stacks .entry)) depth r pointers (readOf (now (lengths .entry)) (now (rights .entry)) (now (bases .entry)) (now (words .entry)) (r .domain) depth frame) opcode register p) ⌝ }
+{
+    match opcode {
+        1 => load(
+            lengths,
+            rights,
+            bases,
+            words,
+            depth,
+            frame,
+            r,
+            pointers,
+            1,
+            p,
+        ),
+        2 => save(
+            lengths,
+            rights,
+            bases,
+            words,
+            depth,
+            frame,
+            r,
+            pointers,
+            p,
+            r.a,
+        ),
+        3 => load(
+            lengths,
+            rights,
+            bases,
+            words,
+            depth,
+            frame,
+            r,
+            pointers,
+            3,
+            p,
+        ),
+        4 => load(
+            lengths,
+            rights,
+            bases,
+            words,
+            depth,
+            frame,
+            r,
+            pointers,
+            4,
+            p,
+        ),
+        5 => onward(r, with_pointer(pointers, register, p), r.a),
+        6 => save(
+            lengths,
+            rights,
+            bases,
+            words,
+            depth,
+            frame,
+            r,
+            pointers,
+            p,
+            pack(pointer_at(pointers, register)),
+        ),
+        7 => jump(lengths, rights, r, pointers, p),
+        8 => call(lengths, gates, rights, stacks, depth, r, pointers, p),
+        9 => give_back(lengths, rights, r, pointers, p),
+        10 => branch(lengths, rights, r, pointers, r.a == 0, p),
+        _ => branch(lengths, rights, r, pointers, 2147483648 <= r.a, p),
+    }
+}
+
+// An instruction: HALT and LIT form no effective pointer.
+fn perform<'a>(
+    lengths: &'a [u16; 16],
+    gates: &'a [u16; 16],
+    rights: &'a [u8; 128],
+    stacks: &'a [u8; 8],
+    bases: &'a [u32; 16],
+    words: &mut [u32],
+    depth: u8,
+    frame: Frame,
+    r: Registers,
+    pointers: [Pointer; 8],
+    i: Instruction,
+) -> Turn
+    requires { ⌜ r .word < 65535 ⌝ }
+    ensures { λ t. ⌜ turnAnswer t ≡ settledAnswer (now (lengths .entry)) (now (rights .entry)) (now (bases .entry)) (now (words .entry)) depth frame r pointers (executeOf (now (lengths .entry)) (now (gates .entry)) (now (rights .entry)) (now (stacks .entry)) depth r pointers (readOf (now (lengths .entry)) (now (rights .entry)) (now (bases .entry)) (now (words .entry)) (r .domain) depth frame) i) ⌝ }
+    ensures { λ t. ⌜ now (words .exit) ≡ settledWords (now (lengths .entry)) (now (rights .entry)) (now (bases .entry)) (now (words .entry)) depth frame r pointers (executeOf (now (lengths .entry)) (now (gates .entry)) (now (rights .entry)) (now (stacks .entry)) depth r pointers (readOf (now (lengths .entry)) (now (rights .entry)) (now (bases .entry)) (now (words .entry)) (r .domain) depth frame) i) ⌝ }
+{
+    let opcode = i.opcode;
+    if opcode == 0 {
+        return stay(r, pointers, Event::Halted);
+    }
+    if opcode == 12 {
+        return onward(r, pointers, literal(i.offset));
+    }
+    match effective(
+        lengths,
+        rights,
+        bases,
+        words,
+        r.domain,
+        depth,
+        frame,
+        pointers,
+        i,
+    ) {
+        PointerAnswer::Refused(n) => stay(r, pointers, Event::Faulted(n)),
+        PointerAnswer::Pointer(p) => effect(
+            lengths,
+            gates,
+            rights,
+            stacks,
+            bases,
+            words,
+            depth,
+            frame,
+            r,
+            pointers,
+            opcode,
+            i.register,
+            p,
+        ),
+    }
+}
+
+// The instruction at the location.
+pub fn take_turn<'a>(
+    lengths: &'a [u16; 16],
+    gates: &'a [u16; 16],
+    rights: &'a [u8; 128],
+    stacks: &'a [u8; 8],
+    bases: &'a [u32; 16],
+    words: &mut [u32],
+    depth: u8,
+    frame: Frame,
+    r: Registers,
+    pointers: [Pointer; 8],
+) -> Turn
+    ensures { λ t. ⌜ turnAnswer t ≡ turnOf (now (lengths .entry)) (now (gates .entry)) (now (rights .entry)) (now (stacks .entry)) (now (bases .entry)) (now (words .entry)) depth frame r pointers ⌝ }
+    ensures { λ t. ⌜ now (words .exit) ≡ turnWords (now (lengths .entry)) (now (gates .entry)) (now (rights .entry)) (now (stacks .entry)) (now (bases .entry)) (now (words .entry)) depth frame r pointers ⌝ }
+{
+    match fetch(lengths, rights, bases, words, r.domain, r.segment, r.word) {
+        WordAnswer::Refused(n) => stay(r, pointers, Event::Faulted(n)),
+        WordAnswer::Word(w) => match decode(w) {
+            InstructionAnswer::Refused(n) => stay(r, pointers, Event::Faulted(n)),
+            InstructionAnswer::Instruction(i) => perform(
+                lengths,
+                gates,
+                rights,
+                stacks,
+                bases,
+                words,
+                depth,
+                frame,
+                r,
+                pointers,
+                i,
+            ),
+        },
+    }
+}
