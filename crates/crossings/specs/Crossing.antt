@@ -1,0 +1,75 @@
+-- Crossings: calls through a gate and returns across domains (cross-domain calls and returns).
+use Prim.Native.Nat.{ℕ, _+_, _-_}
+use mathlib.Core.Bool.{Bool, true, false, _&&_}
+use mathlib.Core.List.{List}
+use lib.Dec.{eqb, leb}
+use lib.ListN.{getD, set, replicate}
+use Rattle.words.specs.Answer.{Answer, refuse, ok, _>>=_, _>>_, require, if_then_else_}
+use Rattle.words.specs.Numbers.{badReturn}
+use Rattle.words.specs.declared.pointer.Pointer.{Pointer}
+use Rattle.state.specs.declared.record.Frame.{Frame}
+use Rattle.state.specs.declared.record.Registers.{Registers}
+use Rattle.state.specs.declared.record.Machine.{Machine}
+use Rattle.state.specs.Record.{noPointer, noCapability, inUse, liveFrame}
+use Rattle.machine.specs.declared.flag.Flag.the-variants as flag
+use Rattle.machine.specs.Static.{staticOf}
+use Rattle.machine.specs.Reference.{accept}
+use Rattle.instructions.specs.Reader.{Reader}
+use Rattle.instructions.specs.Instruction.{withBase, gateDomainOf, stackOf}
+use Rattle.crossings.specs.ArgumentList.{frameOf}
+
+-- a frame that is not in use
+abbrev pub freeFrame : Frame
+freeFrame = record { capabilities = replicate 9 noCapability; s = noPointer; back = noPointer; count = 0; domain = 0 }
+
+-- a pointer with its tag on
+abbrev pub tagged : Pointer → Pointer
+tagged p = record { word = p .word; segment = p .segment; tag = true }
+
+-- the registers at a place, executing a domain
+abbrev pub atPlace : Registers → Pointer → ℕ → Registers
+atPlace r p domain = record { a = r .a; word = p .word; segment = p .segment; domain = domain }
+
+-- the machine after a call through the gate at p with a frame
+unfoldable pub entered : Machine → Pointer → Frame → Machine
+entered m p f =
+    let domain = gateDomainOf (m .layout .gatedomains) (p .segment) in
+    record {
+      layout = m .layout;
+      registers = atPlace (m .registers) p domain;
+      pointers = withBase (set (m .pointers) 0 (tagged (getD (m .pointers) 0 noPointer))) (stackOf (m .layout .stacks) domain);
+      frames = set (m .frames) (m .depth) f;
+      depth = m .depth + 1;
+    }
+
+-- the machine after a return to p from the frame f
+unfoldable pub left : Machine → Pointer → Frame → Machine
+left m p f =
+    record {
+      layout = m .layout;
+      registers = atPlace (m .registers) p (f .domain);
+      pointers = withBase (set (m .pointers) 1 (f .s)) (stackOf (m .layout .stacks) (f .domain));
+      frames = set (m .frames) (m .depth - 1) freeFrame;
+      depth = m .depth - 1;
+    }
+
+-- two pointers are the same place, tags aside
+abbrev pub samePlace : Pointer → Pointer → Bool
+samePlace p q = eqb (p .segment) (q .segment) && eqb (p .word) (q .word)
+
+-- CALL through a gate: the frame is made of the argument list at a, then the gate domain executes
+unfoldable pub enterOf : Machine → Reader → Pointer → Answer Machine
+enterOf m read p =
+    frameOf read (getD (m .pointers) 0 noPointer) (getD (m .pointers) 1 noPointer) (m .registers .domain) (inUse (m .depth)) (liveFrame (m .depth) (m .frames)) >>=
+    (λ f. ok (entered m p f))
+
+-- a return's checks against the frame: 0, or the number of the fault
+unfoldable pub leaveCheck : List ℕ → List ℕ → ℕ → Frame → Pointer → Pointer → ℕ
+leaveCheck lengths rights depth f s p =
+    if leb 1 depth && (samePlace p (f .back) && samePlace s (f .s)) then staticOf lengths rights (f .domain) flag.Execute (p .segment) (p .word) else badReturn
+
+-- RET tagged: a frame with this return location and register s, then static E for the recorded domain
+unfoldable pub leaveOf : Machine → Pointer → Answer Machine
+leaveOf m p =
+    accept (leaveCheck (m .layout .lengths) (m .layout .rights) (inUse (m .depth)) (liveFrame (m .depth) (m .frames)) (getD (m .pointers) 1 noPointer) p)
+    (left m p (liveFrame (m .depth) (m .frames)))

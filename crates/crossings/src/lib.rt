@@ -1,0 +1,2 @@
+// Crossings: calls through a gate and returns across domains.
+pub mod arguments;

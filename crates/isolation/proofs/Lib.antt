@@ -1,0 +1,11 @@
+pub mod Or
+pub mod Sees
+pub mod Stretch
+pub mod Store
+pub mod Theorem
+pub mod Hidden
+pub mod ReadOnly
+pub mod Corollaries
+pub mod Worked
+pub mod Counterexamples
+pub mod Main

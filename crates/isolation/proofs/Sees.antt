@@ -1,0 +1,89 @@
+-- A machine reads and fetches only words that it may see, and stores only in words that it could write.
+use Prim.Native.Nat.{ℕ}
+use native.Mathlib.Omega.{arith}
+use mathlib.Core.Bool.{Bool, true, false, _||_, or-true}
+use mathlib.Core.List.{List}
+use mathlib.Core.Path.{_≡_, refl, ap, fun-ext}
+use borrow.Author.Tests.{eqb-true}
+use lib.Dec.{eqb}
+use lib.ListN.{getD}
+use Rattle.words.specs.Answer.{refuse, ok, _>>=_, if_then_else_}
+use Rattle.words.specs.declared.pointer.Pointer.{Pointer}
+use Rattle.state.specs.declared.record.Machine.{Machine}
+use Rattle.state.specs.Record.{inUse, liveFrame}
+use Rattle.machine.specs.declared.flag.Flag.the-variants as flag
+use Rattle.machine.specs.declared.flag.Access.{Access}
+use Rattle.machine.specs.declared.flag.Access.the-variants as access
+use Rattle.machine.specs.Flag.{flagOf}
+use Rattle.machine.specs.Static.{staticOf}
+use Rattle.machine.specs.Reference.{accept, verdictOf, referenceOf, locateOf}
+use Rattle.machine.specs.Machine.{check}
+use Rattle.machine.proofs.Passes.{verdict-exists}
+use Rattle.instructions.specs.Reader.{readWord, readOf, fetch, fetchOf}
+use Rattle.isolation.specs.Visible.{byStatic, byLive, maySee, couldWrite, existing, place}
+use Rattle.isolation.specs.Isolation.{Agree}
+use Rattle.isolation.proofs.Or.{or-left, or-right}
+
+abbrev verdict : Machine → Access → Pointer → ℕ
+verdict m a p = verdictOf (m .layout .lengths) (m .layout .rights) (m .registers .domain) (inUse (m .depth)) (liveFrame (m .depth) (m .frames)) a p
+
+-- a reference that passes its check passes by the one check or the other
+passes : (m : Machine) (a : Access) (p : Pointer) → eqb (verdict m a p) 0 ≡ true
+    → (byStatic m (flagOf a) (p .segment) (p .word) || byLive m a (p .segment) (p .word)) ≡ true
+unfolding verdictOf
+passes m a p e = by (p .tag) _ _ e
+  where
+    by : (tag : Bool) (static live : ℕ) → eqb (if tag then live else static) 0 ≡ true → (eqb static 0 || eqb live 0) ≡ true
+    by true static live e = or-right (eqb static 0) (eqb live 0) e
+    by false static live e = or-left (eqb static 0) (eqb live 0) e
+
+-- the domain may see what it may execute, and what it may read by either check
+module _ (m : Machine) (s k : ℕ) where
+  executes : byStatic m flag.Execute s k ≡ true → maySee m s k ≡ true
+  unfolding maySee
+  executes e = or-left (byStatic m flag.Execute s k) _ e
+
+  reads : (byStatic m flag.Read s k || byLive m access.Read s k) ≡ true → maySee m s k ≡ true
+  unfolding maySee
+  reads e = simp (e, or-true)
+
+-- memories that agree give the same reader and the same fetched word
+module _ (m : Machine) (w v : List ℕ) (h : Agree m w v) where
+  looks : (n s k : ℕ) → (eqb n 0 ≡ true → maySee m s k ≡ true)
+      → (accept n (place m s k) >>= (λ i. ok (getD w i 0))) ≡ (accept n (place m s k) >>= (λ i. ok (getD v i 0)))
+  looks n s k sees = by (eqb n 0) sees
+    where
+      by : (t : Bool) → (t ≡ true → maySee m s k ≡ true)
+          → ((if t then ok (place m s k) else refuse n) >>= (λ i. ok (getD w i 0))) ≡ ((if t then ok (place m s k) else refuse n) >>= (λ i. ok (getD v i 0)))
+      by true sees = ap ok (h s k (sees refl))
+      by false sees = refl
+
+  pub same-reader : readWord m w ≡ readWord m v
+  unfolding readWord readOf referenceOf
+  same-reader = fun-ext (λ p. looks (verdict m access.Read p) (p .segment) (p .word) (λ e. reads m (p .segment) (p .word) (passes m access.Read p e)))
+
+  pub same-fetch : fetch m w ≡ fetch m v
+  unfolding fetch fetchOf locateOf
+  same-fetch =
+      let s = m .registers .segment in
+      let k = m .registers .word in
+      looks (staticOf (m .layout .lengths) (m .layout .rights) (m .registers .domain) flag.Execute s k) s k (executes m s k)
+
+-- a reference that passes its check for W: at index i, to a word that exists and could be written
+pub record Target (m : Machine) (p : Pointer) (i : ℕ) : Type 0 where
+  pub at : i ≡ place m (p .segment) (p .word)
+  pub exists : existing m (p .segment) (p .word) ≡ true
+  pub writable : couldWrite m (p .segment) (p .word) ≡ true
+
+pub target : (m : Machine) (p : Pointer) (i : ℕ) → check m access.Write p ≡ ok i → Target m p i
+unfolding check referenceOf couldWrite
+target m p i e = by (eqb (verdict m access.Write p) 0) refl e
+  where
+    by : (t : Bool) → eqb (verdict m access.Write p) 0 ≡ t
+        → (if t then ok (place m (p .segment) (p .word)) else refuse (verdict m access.Write p)) ≡ ok i → Target m p i
+    by true q e = record {
+      at = cc;
+      exists = verdict-exists _ _ _ _ _ access.Write p (eqb-true _ _ q);
+      writable = passes m access.Write p q;
+    }
+    by false q e = absurd (let z : _≡_ {A = ℕ} 0 1 = cc in omega arith)

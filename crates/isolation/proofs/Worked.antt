@@ -1,0 +1,142 @@
+-- A worked pair: two domains, a hidden word that differs, a program that stores and crosses.
+use Prim.Native.Nat.{ℕ, _+_, _-_, _≤_}
+use native.Mathlib.Omega.{arith}
+use native.Mathlib.Nat.{le-of-eq}
+use mathlib.Core.Bool.{true, false, _||_}
+use mathlib.Core.List.{List, [], _∷_, _++_}
+use mathlib.Core.Path.{_≡_, refl, sym}
+use lib.ListN.{length, set, replicate, length-replicate}
+use Rattle.words.specs.Field.{field, common}
+use Rattle.words.specs.Offset.{signedOf, displacedOf, literalOf}
+use Rattle.words.specs.PointerWord.{pointerOf}
+use Rattle.words.specs.InstructionWord.{instructionOf}
+use Rattle.words.specs.ModeWord.{modeOf}
+use Rattle.state.specs.declared.record.Machine.{Machine}
+use Rattle.state.specs.Record.{noPointer, noCapability}
+use Rattle.state.specs.Bases.{baseOf, basesOf, wordsIn}
+use Rattle.machine.specs.declared.flag.Flag.the-variants as flag
+use Rattle.machine.specs.declared.flag.Access.the-variants as access
+use Rattle.machine.specs.Flag.{has}
+use Rattle.machine.specs.Static.{exists, rightsOf, staticOf}
+use Rattle.machine.specs.Search.{coversOf, firstOf}
+use Rattle.machine.specs.Live.{liveMatch, liveOf}
+use Rattle.machine.specs.Reference.{verdictOf, locateOf, referenceOf}
+use Rattle.machine.specs.Machine.{check}
+use Rattle.instructions.specs.Reader.{readOf, fetchOf, readWord, fetch}
+use Rattle.instructions.specs.Effective.{displacedBy, throughOf, effectiveOf}
+use Rattle.instructions.specs.Instruction.{jumpCheck, callWay, loadOf, branchOf, callOf, effectOf, executeOf, planOf, jumpOf, returnOf}
+use Rattle.crossings.specs.ArgumentList.{listWord, listPointer, sourceOf, capabilityOf, argumentOf, argumentsFrom, frameAfter, frameOf}
+use Rattle.crossings.specs.Crossing.{freeFrame, entered, enterOf}
+use Rattle.processor.specs.Step.{decide, commit, execute}
+use Rattle.processor.specs.Run.{ran, crossed, runFrom, stretchOf}
+use Rattle.isolation.specs.Visible.{byStatic, byLive, maySee, couldWrite, existing, place, wordAt}
+use Rattle.isolation.specs.Isolation.{Agree, Isolated}
+use Rattle.isolation.proofs.Hidden.{hidden-agrees}
+use Rattle.isolation.proofs.Theorem.{isolation-fits}
+
+-- a row of n numbers that begins as given and goes on with zeros
+abbrev row : ℕ → List ℕ → List ℕ
+row n xs = xs ++ replicate (n - length xs) 0
+
+-- domain 0 executes segment 0, reads and writes segment 1 and may call the gate in segment 2;
+-- domain 1 executes segment 2, reads and writes segment 3
+unfoldable pub start : Machine
+start = record {
+  layout = record {
+    lengths = row 16 (5 ∷ 8 ∷ 2 ∷ 4 ∷ []);
+    gates = row 16 (0 ∷ 0 ∷ 1 ∷ []);
+    start = record { word = 0; segment = 0; domain = 0 };
+    gatedomains = row 16 (0 ∷ 0 ∷ 1 ∷ []);
+    stacks = row 8 (1 ∷ 3 ∷ []);
+    rights = row 16 (4 ∷ 3 ∷ 8 ∷ []) ++ row 112 (0 ∷ 0 ∷ 4 ∷ 3 ∷ []);
+    segments = 4;
+    domains = 2;
+  };
+  registers = record { a = 0; word = 0; segment = 0; domain = 0 };
+  pointers = set (replicate 8 noPointer) 2 (record { word = 0; segment = 1; tag = false });
+  frames = replicate 8 freeFrame;
+  depth = 0;
+}
+
+-- segment 0: LIT n; STORE at b + 6; EPP a, b + 1; CALL through the pointer at b; HALT
+-- segment 1: a pointer to the gate; an argument list of one argument, word 6 to read; word 6
+-- segment 2: LOAD through the first argument; HALT
+-- segment 3: a number that domain 1 keeps for itself
+unfoldable pub memory : (n hidden : ℕ) → List ℕ → List ℕ
+memory n hidden rest =
+    (0x0C000000 + n) ∷ 0x02002006 ∷ 0x05002001 ∷ 0x0800A000 ∷ 0 ∷
+    (0x2000 ∷ 1 ∷ 4 ∷ 0 ∷ 0x1006 ∷ 0x40000001 ∷ 0 ∷ 0 ∷
+    (0x01008003 ∷ 0 ∷
+    (hidden ∷ 0 ∷ 0 ∷ 0 ∷ rest)))
+
+-- the machine when n is stored and domain 1 is entered
+unfoldable pub called : ℕ → Machine
+called n = record {
+  layout = start .layout;
+  registers = record { a = n; word = 0; segment = 2; domain = 1 };
+  pointers = set (set (replicate 8 noPointer) 0 (record { word = 1; segment = 1; tag = true })) 2 (record { word = 0; segment = 3; tag = false });
+  frames = set (replicate 8 freeFrame) 0 (record {
+    capabilities =
+        record { word = 6; length = 1; segment = 1; source = 0; read = true; write = false } ∷
+        record { word = 1; length = 5; segment = 1; source = 0; read = true; write = false } ∷
+        replicate 7 noCapability;
+    s = noPointer;
+    back = record { word = 4; segment = 0; tag = false };
+    count = 2;
+    domain = 0;
+  });
+  depth = 1;
+}
+
+-- what is computed, for every number that is hidden and every rest of the memory
+pub record Computed (hidden : ℕ) (rest : List ℕ) : Type 0 where
+  -- four instructions, a store in word 6 of segment 1, and a crossing
+  pub five : stretchOf 100 start (memory 5 hidden rest) ≡ ran (called 5) (set (memory 5 hidden rest) (place start 1 6) 5) 4 crossed
+  pub six : stretchOf 100 start (memory 6 hidden rest) ≡ ran (called 6) (set (memory 6 hidden rest) (place start 1 6) 6) 4 crossed
+  -- then domain 1 gets its argument through the live frame
+  pub loads : (n : ℕ) → stretchOf 1 (called 5) (set (memory 5 hidden rest) (place start 1 6) n) .machine .registers .a ≡ n
+  -- domain 0 may not see word 0 of segment 3; it may execute word 0 of segment 0 and not read it
+  pub secret : (existing start 3 0 ≡ true) × (maySee start 3 0 ≡ false)
+  pub code : (existing start 0 0 ≡ true) × ((byStatic start flag.Read 0 0 || byLive start access.Read 0 0) ≡ false)
+  -- domain 1 has no static rights on its argument, nor W by the live frame
+  pub argument : (existing start 1 6 ≡ true) × ((byStatic (called 5) flag.Execute 1 6 || byStatic (called 5) flag.Read 1 6) ≡ false)
+  pub unwritable : couldWrite (called 5) 1 6 ≡ false
+  pub written : wordAt start (set (memory 5 hidden rest) (place start 1 6) 5) 1 6 ≡ 5
+
+pub computed : (hidden : ℕ) (rest : List ℕ) → Computed hidden rest
+unfolding field common signedOf displacedOf literalOf pointerOf instructionOf modeOf baseOf basesOf has exists rightsOf staticOf coversOf firstOf liveMatch liveOf verdictOf locateOf referenceOf check readOf fetchOf readWord fetch displacedBy throughOf effectiveOf jumpCheck callWay loadOf branchOf callOf effectOf executeOf planOf jumpOf returnOf listWord listPointer sourceOf capabilityOf argumentOf argumentsFrom frameAfter frameOf entered enterOf decide commit execute runFrom maySee couldWrite start memory called
+computed hidden rest = record {
+  five = refl;
+  six = refl;
+  loads = λ n. refl;
+  secret = (refl, refl);
+  code = (refl, refl);
+  argument = (refl, refl);
+  unwritable = refl;
+  written = refl;
+}
+
+-- the words of a machine fit, and a memory whose rest is long enough has 8,192 words
+pub few : wordsIn (start .layout .lengths) ≤ 8192
+unfolding start baseOf
+few = omega arith
+
+pub fits : (n hidden : ℕ) (rest : List ℕ) → 8173 ≤ length rest → 8192 ≤ length (memory n hidden rest)
+unfolding memory
+fits n hidden rest long = omega arith
+
+-- such a rest, of zeros
+pub zeros : List ℕ
+zeros = replicate 8173 0
+
+pub enough : 8173 ≤ length zeros
+unfolding zeros
+enough = le-of-eq (sym (length-replicate {A = ℕ} 8173 0))
+
+-- the two memories agree, and the claim holds of them; the two stretches are those of `five`
+pub agrees : (rest : List ℕ) → Agree start (memory 5 7 rest) (memory 5 9 rest)
+unfolding start memory basesOf baseOf
+agrees rest = let c = computed 7 rest .secret in hidden-agrees start (memory 5 7 rest) 3 0 9 (c .0) (c .1)
+
+pub pair : Isolated start (memory 5 7 zeros) (memory 5 9 zeros) (stretchOf 100 start (memory 5 7 zeros)) (stretchOf 100 start (memory 5 9 zeros))
+pair = isolation-fits start 100 (memory 5 7 zeros) (memory 5 9 zeros) few (fits 5 7 zeros enough) (fits 5 9 zeros enough) (agrees zeros)

@@ -1,0 +1,52 @@
+-- Steps, runs and stretches.
+use Prim.Native.Nat.{ℕ, zero, suc, _+_}
+use mathlib.Core.Bool.{Bool, true, false}
+use mathlib.Core.List.{List}
+use lib.Dec.{leb}
+use lib.ListN.{length}
+use Rattle.words.specs.Answer.{Answer, refuse, ok, _>>_, require, if_then_else_}
+use Rattle.words.specs.Numbers.{memoryTooShort, notSound}
+use Rattle.state.specs.declared.record.Machine.{Machine}
+use Rattle.soundness.specs.Sound.{soundTest}
+use Rattle.processor.specs.Step.{Event, stopped, moved, crossing, Done, execute}
+
+-- how a run ends; only a stretch ends at a crossing
+pub data Ending : Type 0 where
+  halted spent crossed : Ending
+  faulted : ℕ → Ending
+
+pub record Ran : Type 0 where
+  pub machine : Machine
+  pub words : List ℕ
+  pub count : ℕ
+  pub ending : Ending
+
+abbrev pub ran : Machine → List ℕ → ℕ → Ending → Ran
+ran m words n e = record { machine = m; words = words; count = n; ending = e }
+
+-- after a completed instruction: HALT ends a run; a crossing ends a stretch; else go says how it goes on
+abbrev pub afterEvent : Bool → (Machine → List ℕ → Ran) → ℕ → Machine → List ℕ → Event → Ran
+afterEvent stretch go n m words stopped = ran m words (n + 1) halted
+afterEvent stretch go n m words moved = go m words
+afterEvent stretch go n m words crossing = if stretch then ran m words (n + 1) crossed else go m words
+
+-- after an instruction: one that faults ends the run and is not counted
+abbrev pub after : Bool → (Machine → List ℕ → Ran) → ℕ → Machine → List ℕ → Answer Done → Ran
+after stretch go n m words (refuse f) = ran m words n (faulted f)
+after stretch go n m words (ok d) = afterEvent stretch go n (d .machine) (d .words) (d .event)
+
+-- at most k instructions more, n completed so far
+unfoldable pub runFrom : Bool → ℕ → ℕ → Machine → List ℕ → Ran
+runFrom stretch zero n m words = ran m words n spent
+runFrom stretch (suc k) n m words = after stretch (runFrom stretch k (n + 1)) n m words (execute m words)
+
+-- a run of a sound machine, and a stretch, which also stops right after its first completed crossing
+abbrev pub runOf : ℕ → Machine → List ℕ → Ran
+runOf limit m words = runFrom false limit 0 m words
+
+abbrev pub stretchOf : ℕ → Machine → List ℕ → Ran
+stretchOf limit m words = runFrom true limit 0 m words
+
+-- what every call judges first: 9, then 7
+unfoldable pub judged : {A : Type 0} → Machine → List ℕ → A → Answer A
+judged m words a = require (soundTest m) notSound >> require (leb 8192 (length words)) memoryTooShort >> ok a

@@ -1,0 +1,1 @@
+// The processor: step, run and stretch.
