@@ -16,6 +16,7 @@ use Rattle.machine.specs.Static.{staticOf}
 use Rattle.machine.specs.Reference.{accept}
 use Rattle.instructions.specs.Reader.{Reader}
 use Rattle.instructions.specs.Instruction.{withBase, gateDomainOf, stackOf}
+use Rattle.crossings.specs.declared.crossing.Crossed.{Crossed}
 use Rattle.crossings.specs.ArgumentList.{frameOf}
 
 -- a frame that is not in use
@@ -25,6 +26,10 @@ freeFrame = record { capabilities = replicate 9 noCapability; s = noPointer; bac
 -- a pointer with its tag on
 abbrev pub tagged : Pointer → Pointer
 tagged p = record { word = p .word; segment = p .segment; tag = true }
+
+-- the pointers with the tag of a on
+abbrev pub withTag : List Pointer → List Pointer
+withTag pointers = set pointers 0 (tagged (getD pointers 0 noPointer))
 
 -- the registers at a place, executing a domain
 abbrev pub atPlace : Registers → Pointer → ℕ → Registers
@@ -37,7 +42,7 @@ entered m p f =
     record {
       layout = m .layout;
       registers = atPlace (m .registers) p domain;
-      pointers = withBase (set (m .pointers) 0 (tagged (getD (m .pointers) 0 noPointer))) (stackOf (m .layout .stacks) domain);
+      pointers = withBase (withTag (m .pointers)) (stackOf (m .layout .stacks) domain);
       frames = set (m .frames) (m .depth) f;
       depth = m .depth + 1;
     }
@@ -73,3 +78,31 @@ unfoldable pub leaveOf : Machine → Pointer → Answer Machine
 leaveOf m p =
     accept (leaveCheck (m .layout .lengths) (m .layout .rights) (inUse (m .depth)) (liveFrame (m .depth) (m .frames)) (getD (m .pointers) 1 noPointer) p)
     (left m p (liveFrame (m .depth) (m .frames)))
+
+-- what changes at a crossing, apart from the row that the frame goes into
+pub record Changes : Type 0 where
+  pub frame : Frame
+  pub pointers : List Pointer
+  pub registers : Registers
+
+-- what the code's answer stands for
+abbrev pub crossedAnswer : Crossed → Answer Changes
+crossedAnswer c = if c .refused then refuse (c .number) else ok (record { frame = c .frame; pointers = c .pointers; registers = c .registers })
+
+-- what a call through the gate at p changes, with its frame
+abbrev pub enterParts : List ℕ → List ℕ → Registers → List Pointer → Pointer → Answer Frame → Answer Changes
+enterParts gatedomains stacks r pointers p made =
+    made >>= (λ f. ok (record {
+      frame = f;
+      pointers = withBase (withTag pointers) (stackOf stacks (gateDomainOf gatedomains (p .segment)));
+      registers = atPlace r p (gateDomainOf gatedomains (p .segment));
+    }))
+
+-- what a return to p from the frame f changes, by the number of its checks
+abbrev pub leaveParts : List ℕ → Registers → List Pointer → Pointer → Frame → ℕ → Answer Changes
+leaveParts stacks r pointers p f number =
+    accept number (record {
+      frame = freeFrame;
+      pointers = withBase (set pointers 1 (f .s)) (stackOf stacks (f .domain));
+      registers = atPlace r p (f .domain);
+    })

@@ -1,2 +1,3 @@
 // Crossings: calls through a gate and returns across domains.
 pub mod arguments;
+pub mod crossing;

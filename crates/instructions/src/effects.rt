@@ -10,6 +10,7 @@ ghost use Rattle.instructions.specs.Turn.{turnAnswer, loaded, called, se
 use crate::access::WordAnswer;
 use crate::access::read;
 use crate::access::write;
+use crate::pointers::stack_of;
 use crate::pointers::with_base;
 use crate::transfer::CallAnswer;
 use crate::transfer::call_way;
@@ -153,17 +154,6 @@ pub fn jump<'a>(
         return stay(r, pointers, Event::Faulted(n));
     }
     go_to(r, pointers, p)
-}
-
-// The stack segment of a domain; 0 past the eighth.
-pub fn stack_of(stacks: &[u8; 8], domain: u8) -> u8
-    ensures { λ s. ⌜ s ≡ stackOf (now (stacks .entry)) domain ⌝ }
-{
-    if 8 <= domain {
-        return 0;
-    }
-    let i = domain as usize;
-    stacks[i]
 }
 
 // CALL, up to the argument list.

@@ -2,7 +2,7 @@
 ghost use mathlib.Core.Path.{_≡_};
 ghost use lib.ListN.{getD, set};
 ghost use Rattle.state.specs.Record.{noPointer};
-ghost use Rattle.instructions.specs.Instruction.{withBase};
+ghost use Rattle.instructions.specs.Instruction.{stackOf, withBase};
 use words::pointer::Pointer;
 
 // Register k; a register that does not exist holds nothing.
@@ -31,6 +31,17 @@ pub fn with_pointer(pointers: [Pointer; 8], k: u8, p: Pointer) -> [Pointer; 8]
     let i = k as usize;
     next[i] = p;
     next
+}
+
+// The stack segment of a domain; 0 past the eighth.
+pub fn stack_of(stacks: &[u8; 8], domain: u8) -> u8
+    ensures { λ s. ⌜ s ≡ stackOf (now (stacks .entry)) domain ⌝ }
+{
+    if 8 <= domain {
+        return 0;
+    }
+    let i = domain as usize;
+    stacks[i]
 }
 
 // The registers with b at word 0 of a stack segment.

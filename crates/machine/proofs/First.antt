@@ -2,12 +2,12 @@
 use Prim.Native.Nat.{ℕ, suc, _+_, _<_, _≤_}
 use native.Mathlib.Omega.{arith}
 use native.Mathlib.Numerals.{add-one}
-use mathlib.Core.Path.{_≡_, refl, sym, _∙_}
-use mathlib.Core.List.{List, [], _∷_}
+use mathlib.Core.Path.{_≡_, _∙_}
+use mathlib.Core.List.{List, _∷_}
 use mathlib.Core.Bool.{Bool, true, false}
 use lib.ListN.{length, getD, take, drop, drop-of-length-le, length-take}
 use lib.Seq.{drop-cons, getD-take}
-use Rattle.words.specs.Answer.{Answer, refuse, ok}
+use Rattle.words.specs.Answer.{refuse, ok}
 use Rattle.state.specs.declared.record.Capability.{Capability}
 use Rattle.state.specs.Record.{noCapability}
 use Rattle.machine.specs.Search.{firstOf}

@@ -1,12 +1,11 @@
 -- Where existing words lie: within the words of the machine, and each at a place of its own.
-use Prim.Native.Nat.{ℕ, _+_, _<_, _≤_}
+use Prim.Native.Nat.{ℕ, _+_, _<_}
 use native.Mathlib.Omega.{arith}
 use native.Mathlib.Decide.{ℕ-discrete, decLt}
 use mathlib.Core.Bool.{true}
 use mathlib.Core.List.{List}
-use mathlib.Core.Path.{_≡_, refl, sym, ap, _∙_, subst}
+use mathlib.Core.Path.{_≡_, sym, ap, _∙_}
 use lib.ListN.{getD}
-use Rattle.words.specs.Answer.{ok}
 use Rattle.state.specs.Bases.{baseOf, basesOf, wordsIn}
 use Rattle.state.proofs.Sums.{base-apart, bases-at}
 use Rattle.machine.specs.Static.{exists}

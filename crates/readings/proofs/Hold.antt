@@ -3,7 +3,7 @@ use Prim.Native.Nat.{ℕ}
 use mathlib.Core.Bool.{Bool, true, false}
 use mathlib.Core.List.{List, [], _∷_, List·Memᴰ, List·Memᴰ·cases-cons, List·Memᴰ·not-nil}
 use mathlib.Core.Logic.{⊎-elim}
-use mathlib.Core.Path.{_≡_, refl, sym, ap, _∙_}
+use mathlib.Core.Path.{_≡_, refl, ap}
 use native.Mathlib.Omega.{arith}
 use borrow.Author.Tests.{eqb-true}
 use lib.Dec.{eqb}
@@ -12,7 +12,7 @@ use Rattle.words.specs.Field.{field, common}
 use Rattle.words.specs.PointerWord.{pointerOf}
 use Rattle.words.specs.Offset.{signedOf, displacedOf, literalOf}
 use Rattle.words.specs.InstructionWord.{instructionOf}
-use Rattle.readings.specs.Question.{Question, answer}
+use Rattle.readings.specs.Question.{answer}
 use Rattle.readings.specs.Table.{Row, table}
 
 abbrev both : Bool → Bool → Bool

@@ -2,7 +2,7 @@
 use Prim.Native.Nat.{ℕ}
 use mathlib.Core.List.{List, [], _∷_}
 use lib.IntN.{ℤ}
-use Rattle.words.specs.Answer.{Answer, refuse, ok, _>>=_}
+use Rattle.words.specs.Answer.{Answer, ok, _>>=_}
 use Rattle.words.specs.Bit.{bit}
 use Rattle.words.specs.PointerWord.{pointerOf}
 use Rattle.words.specs.Offset.{displacedOf, literalOf}

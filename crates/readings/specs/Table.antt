@@ -1,7 +1,7 @@
 -- The starred readings: a question and its answer a row.
 use Prim.Native.Nat.{ℕ}
 use mathlib.Core.List.{List, [], _∷_}
-use lib.IntN.{ℤ, pos, negsuc}
+use lib.IntN.{pos, negsuc}
 use Rattle.words.specs.Answer.{Answer, refuse, ok}
 use Rattle.readings.specs.Question.{Question, pointer, instruction, displace}
 

@@ -1,6 +1,5 @@
 -- `machine::flag::allows` meets its contract.
 use native.Mathlib.Nat.{div-one}
-use mathlib.Core.Path.{refl}
 use borrow.Author.Needs.{needs}
 use Rattle.machine.specs.Flag.{has}
 use Rattle.machine.proofs.flag.allows.Statement.{statement}

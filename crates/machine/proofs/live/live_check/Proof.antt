@@ -1,5 +1,4 @@
 -- `machine::live::live_check` meets its contract.
-use mathlib.Core.Path.{_≡_}
 use borrow.Author.Needs.{needs}
 use borrow.Author.Tests.{eq-eqb, ne-eqb}
 use Rattle.machine.specs.Live.{liveOf, liveMatch}

@@ -1,11 +1,11 @@
 -- `machine::search::search` meets its contract.
-use Prim.Native.Nat.{ℕ, _+_, _≤_, _-_, _<_}
+use Prim.Native.Nat.{_≤_, _-_}
 use mathlib.Core.Path.{_≡_, sym, refl, _∙_}
 use mathlib.Core.Bool.{Bool}
 use Rattle.state.specs.declared.record.Capability.{Capability}
 use borrow.Author.Needs.{needs}
 use lib.ListN.{length}
-use Rattle.machine.specs.Search.{coversOf, firstOf}
+use Rattle.machine.specs.Search.{coversOf}
 use Rattle.machine.proofs.First.{Passed, hit, miss, none-counted, none-there}
 use Rattle.machine.proofs.search.search.Statement.{statement}
 use Rattle.machine.proofs.search.search.Tie as tie

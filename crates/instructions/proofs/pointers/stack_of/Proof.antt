@@ -1,8 +1,8 @@
--- `instructions::effects::stack_of` meets its contract.
+-- `instructions::pointers::stack_of` meets its contract.
 use borrow.Author.Needs.{needs}
 use borrow.Author.Tests.{lt-ltb, le-ltb}
-use Rattle.instructions.proofs.effects.stack_of.Statement.{statement}
-use Rattle.instructions.proofs.effects.stack_of.Tie as tie
+use Rattle.instructions.proofs.pointers.stack_of.Statement.{statement}
+use Rattle.instructions.proofs.pointers.stack_of.Tie as tie
 
 returns : tie.Need-returns
 returns c = simp (le-ltb _ _ (c .if1 .taken))

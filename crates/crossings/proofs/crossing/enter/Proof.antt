@@ -1,0 +1,86 @@
+use borrow.Author.Needs.{needs}
+use mathlib.Core.Path.{_≡_, sym, _∙_}
+use Rattle.state.specs.Record.{noPointer}
+use Rattle.instructions.specs.Reader.{readOf}
+use Rattle.crossings.specs.ArgumentList.{frameOf, frameAnswer}
+use lib.ListN.{getD}
+use Rattle.crossings.proofs.crossing.enter.Statement.{statement}
+use Rattle.crossings.proofs.crossing.enter.Tie as tie
+use Rattle.crossings.proofs.crossing.enter.Reads as reads
+use Rattle.crossings.proofs.crossing.enter.Lts as lts
+use Rattle.crossings.proofs.arguments.make_frame.Reads as make-frame-reads
+use Rattle.crossings.proofs.crossing.at_place.Reads as at-place-reads
+use Rattle.crossings.proofs.crossing.gate_domain_of.Reads as gate-domain-of-reads
+use Rattle.crossings.proofs.crossing.with_tag.Reads as with-tag-reads
+use Rattle.instructions.proofs.pointers.pointer_at.Reads as pointer-at-reads
+use Rattle.instructions.proofs.pointers.stack_of.Reads as stack-of-reads
+use Rattle.instructions.proofs.pointers.with_base.Reads as with-base-reads
+
+-- src/crossing.rt:107:82
+pointer-at-requires : tie.Need-pointer-at-requires
+pointer-at-requires c κs = search needs
+
+-- src/crossing.rt:107:107
+pointer-at-requires-2 : tie.Need-pointer-at-requires-2
+pointer-at-requires-2 c κs = search needs
+
+-- src/crossing.rt:107:9
+make-frame-requires : tie.Need-make-frame-requires
+make-frame-requires c κs = search needs
+
+-- src/crossing.rt:110:9
+-- the frame that was made is the definition's
+made : (c : tie.After-make-frame) → let a = c .before .before .before .before .args in
+    frameAnswer (c .make-frame .result) ≡ frameOf (readOf (a .lengths .now) (a .rights .now) (a .bases .now) (a .words .now) (a .r .domain) (a .depth) (a .frame)) (getD (a .pointers) 0 noPointer) (getD (a .pointers) 1 noPointer) (a .r .domain) (a .depth) (a .frame)
+made c = rw (c .before .before .pointer-at .ensures, c .before .pointer-at2 .ensures) at (c .make-frame .ensures)
+
+returns : tie.Need-returns
+returns c =
+    let m = c .before .before in
+    simp (← made m, c .if1 .taken)
+
+-- src/crossing.rt:118:9
+gate-domain-of-requires : tie.Need-gate-domain-of-requires
+gate-domain-of-requires c κs = search needs
+
+-- src/crossing.rt:119:9
+with-tag-requires : tie.Need-with-tag-requires
+with-tag-requires c κs = search needs
+
+-- src/crossing.rt:120:35
+stack-of-requires : tie.Need-stack-of-requires
+stack-of-requires c κs = search needs
+
+-- src/crossing.rt:120:9
+with-base-requires : tie.Need-with-base-requires
+with-base-requires c κs = search needs
+
+-- src/crossing.rt:121:9
+at-place-requires : tie.Need-at-place-requires
+at-place-requires c κs = search needs
+
+-- src/crossing.rt:104:1
+returns-2 : tie.Need-returns-2
+returns-2 c =
+    let b = c .before in
+    let k = b .before in
+    let t = k .before in
+    let g = t .before in
+    let i = g .before in
+    let m = i .before .before in
+    simp (← made m, i .if1 .left, c .at-place .ensures, b .with-base .ensures, k .stack-of .ensures, t .with-tag .ensures, g .gate-domain-of .ensures)
+
+pub enter-spec : {M : Type 1} → statement M
+enter-spec =
+    tie.close
+    (tie.spec
+    pointer-at-requires
+    pointer-at-requires-2
+    make-frame-requires
+    returns
+    gate-domain-of-requires
+    with-tag-requires
+    stack-of-requires
+    with-base-requires
+    at-place-requires
+    returns-2)

@@ -1,0 +1,73 @@
+use borrow.Author.Needs.{needs}
+use mathlib.Core.Path.{_≡_, sym, _∙_}
+use borrow.Author.Tests.{eq-eqb, ne-eqb}
+use Rattle.crossings.proofs.crossing.leave.Statement.{statement}
+use Rattle.crossings.proofs.crossing.leave.Tie as tie
+use Rattle.crossings.proofs.crossing.leave.Reads as reads
+use Rattle.crossings.proofs.crossing.leave.Lts as lts
+use Rattle.crossings.proofs.crossing.at_place.Reads as at-place-reads
+use Rattle.crossings.proofs.crossing.free_frame.Reads as free-frame-reads
+use Rattle.crossings.proofs.crossing.leave_check.Reads as leave-check-reads
+use Rattle.instructions.proofs.pointers.pointer_at.Reads as pointer-at-reads
+use Rattle.instructions.proofs.pointers.stack_of.Reads as stack-of-reads
+use Rattle.instructions.proofs.pointers.with_base.Reads as with-base-reads
+use Rattle.instructions.proofs.pointers.with_pointer.Reads as with-pointer-reads
+
+-- src/crossing.rt:151:61
+pointer-at-requires : tie.Need-pointer-at-requires
+pointer-at-requires c κs = search needs
+
+-- src/crossing.rt:151:9
+leave-check-requires : tie.Need-leave-check-requires
+leave-check-requires c κs = search needs
+
+-- src/crossing.rt:153:9
+returns : tie.Need-returns
+returns c =
+    let l = c .before in
+    simp (← l .before .pointer-at .ensures, ← l .leave-check .ensures, ne-eqb _ _ (c .if1 .taken))
+
+-- src/crossing.rt:161:9
+with-pointer-requires : tie.Need-with-pointer-requires
+with-pointer-requires c κs = search needs
+
+-- src/crossing.rt:162:37
+stack-of-requires : tie.Need-stack-of-requires
+stack-of-requires c κs = search needs
+
+-- src/crossing.rt:162:9
+with-base-requires : tie.Need-with-base-requires
+with-base-requires c κs = search needs
+
+-- src/crossing.rt:163:9
+at-place-requires : tie.Need-at-place-requires
+at-place-requires c κs = search needs
+
+-- src/crossing.rt:165:16
+free-frame-requires : tie.Need-free-frame-requires
+free-frame-requires c κs = search needs
+
+-- src/crossing.rt:148:1
+returns-2 : tie.Need-returns-2
+returns-2 c =
+    let g = c .before in
+    let b = g .before in
+    let k = b .before in
+    let w = k .before in
+    let i = w .before in
+    let l = i .before in
+    simp (← l .before .pointer-at .ensures, ← l .leave-check .ensures, eq-eqb _ _ (i .if1 .left), c .free-frame .ensures, g .at-place .ensures, b .with-base .ensures, k .stack-of .ensures, w .with-pointer .ensures)
+
+pub leave-spec : {M : Type 1} → statement M
+leave-spec =
+    tie.close
+    (tie.spec
+    pointer-at-requires
+    leave-check-requires
+    returns
+    with-pointer-requires
+    stack-of-requires
+    with-base-requires
+    at-place-requires
+    free-frame-requires
+    returns-2)

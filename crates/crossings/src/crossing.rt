@@ -1,0 +1,216 @@
+// Calls through a gate and returns across domains (cross-domain calls and returns).
+ghost use mathlib.Core.Path.{_≡_};
+ghost use lib.ListN.{getD};
+ghost use Rattle.state.specs.Record.{noPointer};
+ghost use Rattle.instructions.specs.Reader.{readOf};
+ghost use Rattle.instructions.specs.Instruction.{gateDomainOf};
+ghost use Rattle.crossings.specs.ArgumentList.{frameOf};
+ghost use Rattle.crossings.specs.Crossing.{freeFrame, samePlace, atPlace, withTag, leaveCheck, crossedAnswer, enterParts, leaveParts};
+use crate::arguments::make_frame;
+use instructions::pointers::pointer_at;
+use instructions::pointers::stack_of;
+use instructions::pointers::with_base;
+use instructions::pointers::with_pointer;
+use machine::flag::Flag;
+use machine::statics::static_check;
+use state::record::Capability;
+use state::record::Frame;
+use state::record::Registers;
+use words::pointer::Pointer;
+
+// What changes at a crossing: the registers, the pointers, and the frame's row. Or a refusal by its number.
+pub struct Crossed {
+    pub frame: Frame,
+    pub pointers: [Pointer; 8],
+    pub registers: Registers,
+    pub number: u8,
+    pub refused: bool,
+}
+
+// The gate domain of a segment; 0 past the sixteenth.
+fn gate_domain_of(gatedomains: &[u8; 16], segment: u8) -> u8
+    ensures { λ r. ⌜ r ≡ gateDomainOf (now (gatedomains .entry)) segment ⌝ }
+{
+    if 16 <= segment {
+        return 0;
+    }
+    let i = segment as usize;
+    gatedomains[i]
+}
+
+// Two pointers are the same place, tags aside.
+fn same_place(p: Pointer, q: Pointer) -> bool
+    ensures { λ r. ⌜ r ≡ samePlace p q ⌝ }
+{
+    if p.segment != q.segment {
+        return false;
+    }
+    p.word == q.word
+}
+
+// The registers at a place, executing a domain.
+fn at_place(r: Registers, p: Pointer, domain: u8) -> Registers
+    ensures { λ g. ⌜ g ≡ atPlace r p domain ⌝ }
+{
+    Registers {
+        a: r.a,
+        word: p.word,
+        segment: p.segment,
+        domain,
+    }
+}
+
+// The registers with the tag of a on.
+fn with_tag(pointers: [Pointer; 8]) -> [Pointer; 8]
+    ensures { λ r. ⌜ r ≡ withTag pointers ⌝ }
+{
+    let a = pointer_at(pointers, 0);
+    let on = Pointer {
+        word: a.word,
+        segment: a.segment,
+        tag: true,
+    };
+    with_pointer(pointers, 0, on)
+}
+
+// A frame that is not in use.
+pub fn free_frame() -> Frame
+    ensures { λ r. ⌜ r ≡ freeFrame ⌝ }
+{
+    let none = Capability {
+        word: 0,
+        length: 0,
+        segment: 0,
+        source: 0,
+        read: false,
+        write: false,
+    };
+    let nowhere = Pointer {
+        word: 0,
+        segment: 0,
+        tag: false,
+    };
+    let capabilities = [none; 9];
+    Frame {
+        capabilities,
+        s: nowhere,
+        back: nowhere,
+        count: 0,
+        domain: 0,
+    }
+}
+
+// CALL through the gate at p.
+pub fn enter<'a>(
+    lengths: &'a [u16; 16],
+    rights: &'a [u8; 128],
+    bases: &'a [u32; 16],
+    gatedomains: &'a [u8; 16],
+    stacks: &'a [u8; 8],
+    words: &[u32],
+    depth: u8,
+    frame: Frame,
+    r: Registers,
+    pointers: [Pointer; 8],
+    p: Pointer,
+) -> Crossed
+    ensures { λ c. ⌜ crossedAnswer c ≡ enterParts (now (gatedomains .entry)) (now (stacks .entry)) r pointers p (frameOf (readOf (now (lengths .entry)) (now (rights .entry)) (now (bases .entry)) (now (words .entry)) (r .domain) depth frame) (getD pointers 0 noPointer) (getD pointers 1 noPointer) (r .domain) depth frame) ⌝ }
+{
+    let made = make_frame(
+        lengths,
+        rights,
+        bases,
+        words,
+        r.domain,
+        depth,
+        frame,
+        pointer_at(pointers, 0),
+        pointer_at(pointers, 1),
+    );
+    let next = made.frame;
+    if made.refused {
+        return Crossed {
+            frame: next,
+            pointers,
+            registers: r,
+            number: made.number,
+            refused: true,
+        };
+    }
+    let domain = gate_domain_of(gatedomains, p.segment);
+    let tagged = with_tag(pointers);
+    let based = with_base(tagged, stack_of(stacks, domain));
+    let registers = at_place(r, p, domain);
+    Crossed {
+        frame: next,
+        pointers: based,
+        registers,
+        number: 0,
+        refused: false,
+    }
+}
+
+// A return's checks against the live frame: 0, or the number of the fault.
+fn leave_check<'a>(
+    lengths: &'a [u16; 16],
+    rights: &'a [u8; 128],
+    depth: u8,
+    frame: Frame,
+    s: Pointer,
+    p: Pointer,
+) -> u8
+    ensures { λ n. ⌜ n ≡ leaveCheck (now (lengths .entry)) (now (rights .entry)) depth frame s p ⌝ }
+{
+    if depth < 1 {
+        return 32;
+    }
+    if !same_place(p, frame.back) {
+        return 32;
+    }
+    if !same_place(s, frame.s) {
+        return 32;
+    }
+    static_check(
+        lengths,
+        rights,
+        frame.domain,
+        Flag::Execute,
+        p.segment,
+        p.word,
+    )
+}
+
+// RET to p across domains.
+pub fn leave<'a>(
+    lengths: &'a [u16; 16],
+    rights: &'a [u8; 128],
+    stacks: &'a [u8; 8],
+    depth: u8,
+    frame: Frame,
+    r: Registers,
+    pointers: [Pointer; 8],
+    p: Pointer,
+) -> Crossed
+    ensures { λ c. ⌜ crossedAnswer c ≡ leaveParts (now (stacks .entry)) r pointers p frame (leaveCheck (now (lengths .entry)) (now (rights .entry)) depth frame (getD pointers 1 noPointer) p) ⌝ }
+{
+    let number = leave_check(lengths, rights, depth, frame, pointer_at(pointers, 1), p);
+    if number != 0 {
+        return Crossed {
+            frame,
+            pointers,
+            registers: r,
+            number,
+            refused: true,
+        };
+    }
+    let restored = with_pointer(pointers, 1, frame.s);
+    let based = with_base(restored, stack_of(stacks, frame.domain));
+    let registers = at_place(r, p, frame.domain);
+    Crossed {
+        frame: free_frame(),
+        pointers: based,
+        registers,
+        number: 0,
+        refused: false,
+    }
+}
