@@ -2,3 +2,4 @@ pub mod First
 pub mod Passes
 pub mod Places
 pub mod Rights
+pub mod Parts

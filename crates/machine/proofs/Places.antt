@@ -2,15 +2,25 @@
 use Prim.Native.Nat.{ℕ, _+_, _<_}
 use native.Mathlib.Omega.{arith}
 use native.Mathlib.Decide.{ℕ-discrete, decLt}
-use mathlib.Core.Bool.{true}
+use mathlib.Core.Bool.{Bool, true, false}
 use mathlib.Core.List.{List}
-use mathlib.Core.Path.{_≡_, sym, ap, _∙_}
+use mathlib.Core.Path.{_≡_, refl, sym, ap, _∙_, subst}
+use borrow.Author.Tests.{eqb-true}
+use lib.Dec.{eqb}
 use lib.ListN.{getD}
+use Rattle.words.specs.Answer.{refuse, ok, _>>_, require, if_then_else_}
+use Rattle.words.specs.declared.pointer.Pointer.{Pointer}
+use Rattle.state.specs.declared.record.Machine.{Machine}
 use Rattle.state.specs.Bases.{baseOf, basesOf, wordsIn}
 use Rattle.state.proofs.Sums.{base-apart, bases-at}
+use Rattle.soundness.specs.Sound.{soundTest}
+use Rattle.soundness.proofs.Facts.{sound-facts}
+use Rattle.machine.specs.declared.flag.Flag.{Flag}
+use Rattle.machine.specs.declared.flag.Access.{Access}
 use Rattle.machine.specs.Static.{exists}
-use Rattle.machine.specs.Reference.{indexOf}
-use Rattle.machine.proofs.Passes.{exists-facts}
+use Rattle.machine.specs.Reference.{indexOf, accept, locateOf, referenceOf}
+use Rattle.machine.specs.Machine.{staticCheck, check, judgedCheck}
+use Rattle.machine.proofs.Passes.{exists-facts, static-exists, verdict-exists}
 
 -- the index of an existing word is below the sum of the lengths
 pub index-lt : (lengths : List ℕ) (s w : ℕ) → exists lengths s w ≡ true → indexOf (basesOf lengths) s w < wordsIn lengths
@@ -39,3 +49,33 @@ index-apart lengths s w s′ w′ e e′ q = by (ℕ-discrete s s′)
         lower : Dec (s < s′) → ⊥
         lower (yes h) = omega (arith, base-apart lengths s s′ h, f .1, placed)
         lower (no h) = omega (arith, base-apart lengths s′ s (omega (arith, n, h)), f′ .1, placed)
+
+-- what an accepted check says: the verdict was 0, and the index is the word's
+accepted : (n i k : ℕ) → accept n i ≡ ok k → (n ≡ 0) × (i ≡ k)
+accepted n i k e = by (eqb n 0) refl e
+  where
+    by : (t : Bool) → eqb n 0 ≡ t → (if t then ok i else refuse n) ≡ ok k → (n ≡ 0) × (i ≡ k)
+    by true q e = (eqb-true n 0 q, cc)
+    by false q e = absurd (let z : _≡_ {A = ℕ} 0 1 = cc in omega arith)
+
+-- the index that a check gives is below the sum of the lengths
+pub static-lt : (m : Machine) (d : ℕ) (f : Flag) (s w i : ℕ) → staticCheck m d f s w ≡ ok i → i < wordsIn (m .layout .lengths)
+unfolding staticCheck locateOf
+static-lt m d f s w i e =
+    let t = accepted _ _ i e in
+    subst (λ (k : ℕ). k < wordsIn (m .layout .lengths)) (t .1) (index-lt _ s w (static-exists _ _ d f s w (t .0)))
+
+pub check-lt : (m : Machine) (a : Access) (p : Pointer) (i : ℕ) → check m a p ≡ ok i → i < wordsIn (m .layout .lengths)
+unfolding check referenceOf
+check-lt m a p i e =
+    let t = accepted _ _ i e in
+    subst (λ (k : ℕ). k < wordsIn (m .layout .lengths)) (t .1) (index-lt _ (p .segment) (p .word) (verdict-exists _ _ _ _ _ a p (t .0)))
+
+-- so below 8,192 where the record is judged first
+pub judged-lt : (m : Machine) (a : Access) (p : Pointer) (i : ℕ) → judgedCheck m a p ≡ ok i → i < 8192
+unfolding judgedCheck
+judged-lt m a p i e = by (soundTest m) refl e
+  where
+    by : (t : Bool) → soundTest m ≡ t → (require t 9 >> check m a p) ≡ ok i → i < 8192
+    by true q e = omega (arith, check-lt m a p i e, sound-facts m q .layout .words)
+    by false q e = absurd (let z : _≡_ {A = ℕ} 0 1 = cc in omega arith)

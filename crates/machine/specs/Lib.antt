@@ -4,3 +4,4 @@ pub mod Search
 pub mod Live
 pub mod Reference
 pub mod Machine
+pub mod Segment

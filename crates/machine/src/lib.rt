@@ -4,4 +4,5 @@ pub mod live;
 pub mod machine;
 pub mod reference;
 pub mod search;
+pub mod segment;
 pub mod statics;

@@ -1,22 +1,26 @@
 // The checks of a machine's references, on the whole record.
 ghost use mathlib.Core.Path.{_≡_};
 ghost use Rattle.machine.specs.Reference.{indexAnswer};
-ghost use Rattle.machine.specs.Machine.{staticCheck, check};
+ghost use Rattle.machine.specs.Machine.{judgedStatic, judgedCheck};
 use crate::flag::Access;
 use crate::flag::Flag;
 use crate::reference::IndexAnswer;
 use crate::reference::locate;
 use crate::reference::reference;
+use soundness::sound;
 use state::bases::bases;
 use state::frames::in_use;
 use state::frames::live_frame;
 use state::record::Machine;
 use words::pointer::Pointer;
 
-// The static check of a domain.
+// The static check of a domain; 9 for a record that is not sound.
 pub fn check_static(m: Machine, domain: u8, flag: Flag, segment: u8, word: u16) -> IndexAnswer
-    ensures { λ r. ⌜ indexAnswer r ≡ staticCheck m domain flag segment word ⌝ }
+    ensures { λ r. ⌜ indexAnswer r ≡ judgedStatic m domain flag segment word ⌝ }
 {
+    if !sound(m) {
+        return IndexAnswer::Refused(9);
+    }
     let places = bases(&m.layout.lengths);
     locate(
         &m.layout.lengths,
@@ -29,10 +33,13 @@ pub fn check_static(m: Machine, domain: u8, flag: Flag, segment: u8, word: u16) 
     )
 }
 
-// The check of a reference by the executing domain, live for a tagged pointer, static for another.
+// The check of a reference by the executing domain, live for a tagged pointer, static for another; 9 for a record that is not sound.
 pub fn check_reference(m: Machine, access: Access, p: Pointer) -> IndexAnswer
-    ensures { λ r. ⌜ indexAnswer r ≡ check m access p ⌝ }
+    ensures { λ r. ⌜ indexAnswer r ≡ judgedCheck m access p ⌝ }
 {
+    if !sound(m) {
+        return IndexAnswer::Refused(9);
+    }
     let places = bases(&m.layout.lengths);
     let frames = m.frames;
     let frame = live_frame(frames, m.depth);

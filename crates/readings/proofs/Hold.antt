@@ -12,6 +12,15 @@ use Rattle.words.specs.Field.{field, common}
 use Rattle.words.specs.PointerWord.{pointerOf}
 use Rattle.words.specs.Offset.{signedOf, displacedOf, literalOf}
 use Rattle.words.specs.InstructionWord.{instructionOf}
+use Rattle.state.specs.Bases.{baseOf, basesOf}
+use Rattle.soundness.specs.Fresh.{freshOf}
+use Rattle.soundness.specs.Sound.{allFrom, segmentTest, stackTest, rightsTest, startTest, layoutTest, registersTest, pointerTest, pointersTest, capabilityTest, emptyCapability, emptyPointer, emptyFrame, frameTest, framesTest, soundTest}
+use Rattle.machine.specs.Flag.{has}
+use Rattle.machine.specs.Static.{exists, rightsOf, staticOf}
+use Rattle.machine.specs.Search.{coversOf, firstOf}
+use Rattle.machine.specs.Live.{liveMatch, liveOf, passedOf}
+use Rattle.machine.specs.Reference.{verdictOf, referenceOf}
+use Rattle.machine.specs.Machine.{check, judgedCheck}
 use Rattle.readings.specs.Question.{answer}
 use Rattle.readings.specs.Table.{Row, table}
 
@@ -64,4 +73,7 @@ each (q ∷ rs) e r m =
 -- THE STARRED READINGS
 pub readings : (r : Row) → List·Memᴰ r table → answer (r .asked) ≡ r .due
 unfolding field common pointerOf signedOf displacedOf literalOf instructionOf
+    baseOf basesOf freshOf allFrom segmentTest stackTest rightsTest startTest layoutTest registersTest pointerTest pointersTest
+    capabilityTest emptyCapability emptyPointer emptyFrame frameTest framesTest soundTest
+    has exists rightsOf staticOf coversOf firstOf liveMatch liveOf passedOf verdictOf referenceOf check judgedCheck
 readings = each table refl

@@ -1,5 +1,6 @@
 -- Questions that the definitions answer, and their answers in plain numbers.
 use Prim.Native.Nat.{ℕ}
+use mathlib.Core.Bool.{Bool}
 use mathlib.Core.List.{List, [], _∷_}
 use lib.IntN.{ℤ}
 use Rattle.words.specs.Answer.{Answer, ok, _>>=_}
@@ -7,11 +8,25 @@ use Rattle.words.specs.Bit.{bit}
 use Rattle.words.specs.PointerWord.{pointerOf}
 use Rattle.words.specs.Offset.{displacedOf, literalOf}
 use Rattle.words.specs.InstructionWord.{instructionOf}
+use Rattle.words.specs.declared.pointer.Pointer.{Pointer}
+use Rattle.state.specs.declared.record.Machine.{Machine}
+use Rattle.state.specs.Record.{inUse, liveFrame}
+use Rattle.machine.specs.declared.flag.Access.the-variants as access
+use Rattle.machine.specs.Live.{passedOf}
+use Rattle.machine.specs.Machine.{judgedCheck}
+use Rattle.readings.specs.Scene.{Scene, machineOf}
 
 pub data Question : Type 0 where
   pointer : ℕ → Question
   instruction : ℕ → Question
   displace : ℕ → ℤ → Question
+  reading : Scene → Pointer → Question
+  writing : Scene → Pointer → Question
+  passing : Scene → Pointer → ℕ → Bool → Bool → Question
+
+-- passing an argument on from the live frame of a machine
+abbrev passed : Machine → Pointer → ℕ → Bool → Bool → Answer ℕ
+passed m p length read write = passedOf (inUse (m .depth)) (liveFrame (m .depth) (m .frames)) (p .segment) (p .word) length read write
 
 -- what is answered: a refusal's number, or values in the order that the comment of the case gives
 abbrev pub answer : Question → Answer (List ℕ)
@@ -22,3 +37,8 @@ answer (instruction w) =
     instructionOf w >>= (λ i. ok (i .opcode ∷ i .register ∷ i .base ∷ bit (i .indirect) ∷ literalOf (i .offset) ∷ []))
 -- the word number
 answer (displace word offset) = displacedOf word offset >>= (λ n. ok (n ∷ []))
+-- the index of the word in the memory
+answer (reading s p) = judgedCheck (machineOf s) access.Read p >>= (λ i. ok (i ∷ []))
+answer (writing s p) = judgedCheck (machineOf s) access.Write p >>= (λ i. ok (i ∷ []))
+-- the source
+answer (passing s p length read write) = passed (machineOf s) p length read write >>= (λ d. ok (d ∷ []))

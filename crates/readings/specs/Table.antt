@@ -1,9 +1,11 @@
 -- The starred readings: a question and its answer a row.
 use Prim.Native.Nat.{ℕ}
-use mathlib.Core.List.{List, [], _∷_}
+use mathlib.Core.Bool.{true}
+use mathlib.Core.List.{List, [], _∷_, _++_}
 use lib.IntN.{pos, negsuc}
 use Rattle.words.specs.Answer.{Answer, refuse, ok}
-use Rattle.readings.specs.Question.{Question, pointer, instruction, displace}
+use Rattle.readings.specs.Scene.{Scene, untagged, tagged, readOn, writeOn}
+use Rattle.readings.specs.Question.{Question, pointer, instruction, displace, reading, writing, passing}
 
 pub record Row : Type 0 where
   pub asked : Question
@@ -13,6 +15,32 @@ abbrev _gives_ : Question → Answer (List ℕ) → Row
 q gives a = record { asked = q; due = a }
 
 infix 4 _gives_
+-- a segment of 10 words, on which the domain has the rights r
+abbrev tenWords : ℕ → Scene
+tenWords r = record { lengths = 10 ∷ []; rights = (r ∷ []) ∷ []; capabilities = [] }
+
+-- a read capability on segment 3, words 4-7, the only one on that segment; its source, domain 1, may read and write there
+abbrev fourWords : Scene
+fourWords =
+    record {
+      lengths = 1 ∷ 1 ∷ 12 ∷ 12 ∷ [];
+      rights = (0 ∷ []) ∷ (0 ∷ 0 ∷ 3 ∷ 3 ∷ []) ∷ [];
+      capabilities = writeOn 2 0 12 1 ∷ readOn 3 4 4 1 ∷ [];
+    }
+
+-- two read capabilities on the same words: the first's source, domain 1, has no R, the second's, domain 2, has it
+abbrev twoMatches : Scene
+twoMatches = record { lengths = 8 ∷ []; rights = (0 ∷ []) ∷ (2 ∷ []) ∷ (1 ∷ []) ∷ []; capabilities = readOn 0 4 4 1 ∷ readOn 0 4 4 2 ∷ [] }
+
+-- read and write on the same words in two capabilities
+abbrev readAndWrite : Scene
+readAndWrite = record { lengths = 8 ∷ []; rights = (0 ∷ []) ∷ (3 ∷ []) ∷ []; capabilities = readOn 0 4 4 1 ∷ writeOn 0 4 4 1 ∷ [] }
+
+-- a row for each rights byte
+abbrev underRights : (ℕ → Row) → List Row
+underRights f =
+    f 0 ∷ f 1 ∷ f 2 ∷ f 3 ∷ f 4 ∷ f 5 ∷ f 6 ∷ f 7 ∷ f 8 ∷ f 9 ∷ f 10 ∷ f 11 ∷ f 12 ∷ f 13 ∷ f 14 ∷ f 15 ∷ []
+
 abbrev pub table : List Row
 table =
     (pointer 0x80001005 gives ok (1 ∷ 1 ∷ 5 ∷ [])) ∷
@@ -20,4 +48,14 @@ table =
     (instruction 0x0100A003 gives ok (1 ∷ 0 ∷ 2 ∷ 1 ∷ 3 ∷ [])) ∷
     (displace 4095 (pos 1) gives refuse 23) ∷
     (displace 0 (negsuc 0) gives refuse 23) ∷
-    []
+    (reading (tenWords 1) (untagged 0 9) gives ok (9 ∷ [])) ∷
+    (reading (tenWords 0) (untagged 0 9) gives refuse 22) ∷
+    (reading fourWords (tagged 3 4) gives ok (18 ∷ [])) ∷
+    (reading fourWords (tagged 3 7) gives ok (21 ∷ [])) ∷
+    (reading fourWords (tagged 3 3) gives refuse 24) ∷
+    (reading fourWords (tagged 3 8) gives refuse 24) ∷
+    (writing fourWords (tagged 3 5) gives refuse 24) ∷
+    (reading twoMatches (tagged 0 5) gives refuse 25) ∷
+    (passing readAndWrite (tagged 0 4) 4 true true gives refuse 24) ∷
+    underRights (λ r. reading (tenWords r) (untagged 0 10) gives refuse 21) ++
+    underRights (λ r. writing (tenWords r) (untagged 0 10) gives refuse 21)

@@ -33,11 +33,11 @@ pub fn displace(word: u16, offset: i32) -> WordAnswer
 pub fn climb(word: u16, count: u16) -> WordAnswer
     ensures { λ r. ⌜ wordAnswer r ≡ displacedOf word (pos count) ⌝ }
 {
-    let at = word as u32 + count as u32;
-    if 4095 < at {
+    let sum = word as u32 + count as u32;
+    if 4095 < sum {
         return WordAnswer::Refused(23);
     }
-    WordAnswer::Word(at as u16)
+    WordAnswer::Word(sum as u16)
 }
 
 // An offset modulo 2^32.

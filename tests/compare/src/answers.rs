@@ -1,0 +1,69 @@
+//! How often each answer was given, by kind of record.
+
+use crate::references::REFUSED;
+use std::collections::BTreeMap;
+use std::fmt;
+
+/// Kinds of records.
+#[derive(Clone, Copy, Debug, PartialEq, Eq, PartialOrd, Ord)]
+pub enum Kind {
+    /// As a run left it.
+    MidRun,
+    /// Sound, reachable or not.
+    Sound,
+    /// With garbage, mostly not sound.
+    Garbage,
+}
+
+/// Counts of answers: 0 for an index, else the number of the refusal.
+#[derive(Clone, Debug, Default)]
+pub struct Answers {
+    counts: BTreeMap<(u32, Kind), u64>,
+}
+
+impl Answers {
+    /// Counts an answer.
+    pub fn add(&mut self, kind: Kind, answer: u32) {
+        let number = answer.saturating_sub(REFUSED);
+        *self.counts.entry((number, kind)).or_default() += 1;
+    }
+
+    /// How many answers were counted.
+    pub fn total(&self) -> u64 {
+        self.counts.values().sum()
+    }
+
+    /// How many had this number.
+    pub fn of_number(&self, number: u32) -> u64 {
+        self.sum(|n, _| n == number)
+    }
+
+    /// How many were about this kind of record.
+    pub fn of_kind(&self, kind: Kind) -> u64 {
+        self.sum(|_, k| k == kind)
+    }
+
+    fn sum(&self, counted: impl Fn(u32, Kind) -> bool) -> u64 {
+        let rows = self.counts.iter();
+        rows.filter(|((number, kind), _)| counted(*number, *kind))
+            .map(|(_, count)| count)
+            .sum()
+    }
+}
+
+impl fmt::Display for Answers {
+    fn fmt(&self, f: &mut fmt::Formatter<'_>) -> fmt::Result {
+        const KINDS: [Kind; 3] = [Kind::MidRun, Kind::Sound, Kind::Garbage];
+        writeln!(f, "answer     mid run      sound    garbage")?;
+        for number in [0, 9, 21, 22, 24, 25] {
+            let name = match number {
+                0 => "index".to_string(),
+                _ => number.to_string(),
+            };
+            let [a, b, c] = KINDS.map(|kind| self.sum(|n, k| (n, k) == (number, kind)));
+            writeln!(f, "{name:<7}{a:>11}{b:>11}{c:>11}")?;
+        }
+        let [a, b, c] = KINDS.map(|kind| self.of_kind(kind));
+        writeln!(f, "all    {a:>11}{b:>11}{c:>11}")
+    }
+}
