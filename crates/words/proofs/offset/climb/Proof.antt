@@ -5,8 +5,8 @@ use Rattle.words.specs.Offset.{displacedOf}
 use Rattle.words.proofs.offset.climb.Statement.{statement}
 use Rattle.words.proofs.offset.climb.Tie as tie
 
-add-at : tie.Need-add-at
-add-at c = search needs
+add-sum : tie.Need-add-sum
+add-sum c = search needs
 
 returns : tie.Need-returns
 unfolding displacedOf
@@ -20,4 +20,4 @@ unfolding displacedOf
 returns-2 c = simp (le-leb _ _ (c .if1 .left))
 
 pub climb-spec : {M : Type 1} → statement M
-climb-spec = tie.close (tie.spec add-at returns cast-t7 returns-2)
+climb-spec = tie.close (tie.spec add-sum returns cast-t7 returns-2)
