@@ -1,0 +1,56 @@
+-- The image of the paper's readings, and a refusal of each number, computed.
+use Prim.Native.Nat.{ℕ}
+use mathlib.Core.Path.{_≡_, refl}
+use mathlib.Core.List.{List, [], _∷_, _++_}
+use lib.ListN.{take, replicate, set}
+use Rattle.words.specs.Answer.{Answer, refuse, ok}
+use Rattle.words.specs.Field.{field}
+use Rattle.words.specs.PointerWord.{pointerOf}
+use Rattle.image.specs.Bytes.{pairOf, wordOf, wordsOf}
+use Rattle.image.specs.Chunk.{headerOf, chunkOf}
+use Rattle.image.specs.Head.{headFields, headBody, headOf}
+use Rattle.image.specs.Segment.{segmentLength, segmentFields, segmentBody, segmentOf, segmentsOf}
+use Rattle.image.specs.Domain.{allRights, domainBody, domainOf, domainsOf}
+use Rattle.image.specs.Image.{Image, endOf, imageOf}
+use Rattle.image.specs.Reader.{readOf}
+
+-- one segment of one word, HALT, and one domain that may execute it
+abbrev example : List ℕ
+example =
+    8 ∷ 0 ∷ 1 ∷ 0 ∷ 1 ∷ 1 ∷ 0 ∷ 0 ∷ 0 ∷ 0 ∷ 0 ∷ 0 ∷
+    8 ∷ 0 ∷ 2 ∷ 0 ∷ 0 ∷ 0 ∷ 0 ∷ 0 ∷ 0 ∷ 0 ∷ 0 ∷ 0 ∷
+    2 ∷ 0 ∷ 3 ∷ 0 ∷ 0 ∷ 4 ∷
+    0 ∷ 0 ∷ 4 ∷ 0 ∷ []
+
+abbrev exampleImage : Image
+exampleImage =
+    record {
+      start = record { word = 0; segment = 0; domain = 0 };
+      segments = record { gates = 0; domain = 0; words = 0 ∷ [] } ∷ [];
+      domains = record { stack = 0; rights = 4 ∷ [] } ∷ [];
+    }
+
+accepted : imageOf example ≡ ok exampleImage
+unfolding imageOf headOf headBody headFields chunkOf headerOf pairOf wordOf wordsOf pointerOf field segmentsOf segmentOf segmentLength segmentBody segmentFields domainsOf domainOf domainBody allRights endOf
+accepted = refl
+
+-- the image cut short, and with one byte changed
+refusals : List (Answer Image)
+refusals =
+    imageOf [] ∷
+    imageOf (take 11 example) ∷
+    imageOf (take 33 example) ∷
+    imageOf (set example 2 2) ∷
+    imageOf (set example 12 4) ∷
+    imageOf (set example 13 1) ∷
+    imageOf (set example 16 2) ∷
+    imageOf (set example 11 128) ∷
+    imageOf (set example 29 16) ∷
+    imageOf (example ++ (0 ∷ [])) ∷
+    readOf [] (replicate 8191 0) ∷
+    []
+
+numbers : refusals ≡
+    refuse 1 ∷ refuse 1 ∷ refuse 1 ∷ refuse 2 ∷ refuse 3 ∷ refuse 1 ∷ refuse 4 ∷ refuse 4 ∷ refuse 4 ∷ refuse 6 ∷ refuse 7 ∷ []
+unfolding refusals imageOf headOf headBody headFields chunkOf headerOf pairOf wordOf wordsOf pointerOf field segmentsOf segmentOf segmentLength segmentBody segmentFields domainsOf domainOf domainBody allRights endOf readOf
+numbers = refl

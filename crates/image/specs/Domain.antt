@@ -1,0 +1,58 @@
+-- Kind 3, one per domain: stack segment, then a rights byte (0-15) per segment.
+use Prim.Native.Nat.{ℕ, zero, suc, _+_}
+use mathlib.Core.Bool.{Bool, true, _&&_}
+use mathlib.Core.List.{List, [], _∷_}
+use lib.Dec.{leb, ltb}
+use lib.ListN.{getD, take, drop}
+use Rattle.words.specs.Answer.{Answer, refuse, ok, _>>=_, _>>_, require}
+use Rattle.words.specs.Numbers.{badField}
+use Rattle.image.specs.Bytes.{joined}
+use Rattle.image.specs.Chunk.{Read, chunkOf, chunkBytes, exactly}
+use Rattle.image.specs.declared.domain.DomainAnswer.{DomainAnswer}
+use Rattle.image.specs.declared.domain.DomainAnswer.the-variants as variant
+
+-- a domain of an image
+pub record Domain : Type 0 where
+  pub stack : ℕ
+  pub rights : List ℕ
+
+-- each of the bytes is 0-15
+unfoldable pub allRights : List ℕ → Bool
+allRights [] = true
+allRights (r ∷ rs) = leb r 15 && allRights rs
+
+-- the domain in a body
+unfoldable pub domainBody : ℕ → List ℕ → Answer Domain
+domainBody segments body =
+    require (ltb (getD body 0 0) segments) badField >>
+    require (allRights (drop 1 body)) badField >>
+    ok (record { stack = getD body 0 0; rights = drop 1 body })
+
+-- the domain in a chunk's body, and the bytes after the chunk
+abbrev pub domainRead : ℕ → Read (List ℕ) → Answer (Read Domain)
+domainRead segments c = domainBody segments (c .value) >>= (λ d. ok (record { value = d; rest = c .rest }))
+
+-- the domain at the front of some bytes
+unfoldable pub domainOf : ℕ → List ℕ → Answer (Read Domain)
+domainOf segments bytes = chunkOf 3 (exactly (1 + segments)) bytes >>= domainRead segments
+
+-- n domains
+unfoldable pub domainsOf : ℕ → ℕ → List ℕ → Answer (Read (List Domain))
+domainsOf zero segments bytes = ok (record { value = []; rest = bytes })
+domainsOf (suc n) segments bytes =
+    domainOf segments bytes >>= (λ d. domainsOf n segments (d .rest) >>= (λ r.
+    ok (record { value = d .value ∷ r .value; rest = r .rest })))
+
+-- the bytes of a domain
+unfoldable pub domainBytes : Domain → List ℕ
+domainBytes d = chunkBytes 3 (d .stack ∷ d .rights)
+
+-- the bytes of domains, one after the other
+abbrev pub domainsBytes : List Domain → List ℕ
+domainsBytes = joined domainBytes
+
+-- what the code's answer stands for: a domain of a chunk that begins at a place of the image
+abbrev pub domainAnswer : List ℕ → ℕ → ℕ → DomainAnswer → Answer (Read Domain)
+domainAnswer image at segments (variant.Stack s) =
+    ok (record { value = record { stack = s; rights = take segments (drop (at + 5) image) }; rest = drop (at + 5 + segments) image })
+domainAnswer image at segments (variant.Refused n) = refuse n

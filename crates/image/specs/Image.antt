@@ -1,0 +1,88 @@
+-- Images: kind 1, kind 2 for each segment, kind 3 for each domain, kind 4, and nothing after it.
+use Prim.Native.Nat.{ℕ, zero, suc, _+_, _-_, _*_}
+use mathlib.Core.List.{List, [], _∷_, _++_, map}
+use lib.Dec.{eqb}
+use lib.ListN.{length, getD, take, drop, replicate}
+use Rattle.words.specs.Answer.{Answer, ok, _>>=_, _>>_, require}
+use Rattle.state.specs.declared.record.Start.{Start}
+use Rattle.state.specs.declared.record.Layout.{Layout}
+use Rattle.state.specs.Bases.{baseOf}
+use Rattle.words.specs.Numbers.{bytesLeft}
+use Rattle.image.specs.Bytes.{joined}
+use Rattle.image.specs.Chunk.{chunkOf, chunkBytes, exactly}
+use Rattle.image.specs.Head.{headOf, headBytes}
+use Rattle.image.specs.Segment.{Segment, segmentsOf, segmentsBytes}
+use Rattle.image.specs.Domain.{Domain, domainsOf, domainsBytes}
+
+-- what an image holds
+pub record Image : Type 0 where
+  pub start : Start
+  pub segments : List Segment
+  pub domains : List Domain
+
+-- kind 4, and no bytes after it
+unfoldable pub endOf : List ℕ → Answer (Unit {0})
+endOf bytes = chunkOf 4 (exactly 0) bytes >>= (λ c. require (eqb (length (c .rest)) 0) bytesLeft)
+
+-- the image in some bytes
+unfoldable pub imageOf : List ℕ → Answer Image
+imageOf bytes =
+    headOf bytes >>= (λ h.
+    segmentsOf (h .value .segments) (h .value .domains) 8192 (h .rest) >>= (λ s.
+    domainsOf (h .value .domains) (h .value .segments) (s .rest) >>= (λ d.
+    endOf (d .rest) >>
+    ok (record { start = h .value .start; segments = s .value; domains = d .value }))))
+
+-- the bytes that hold an image
+unfoldable pub bytesOf : Image → List ℕ
+bytesOf i =
+    headBytes (record { start = i .start; segments = length (i .segments); domains = length (i .domains) }) ++
+    (segmentsBytes (i .segments) ++ (domainsBytes (i .domains) ++ chunkBytes 4 []))
+
+-- the numbers, with zeros after them up to n
+unfoldable pub padded : ℕ → List ℕ → List ℕ
+padded n xs = xs ++ replicate (n - length xs) 0
+
+-- the rights of all domains, in rows of 16
+abbrev pub allRows : List Domain → List ℕ
+allRows = joined (λ d. padded 16 (d .rights))
+
+-- the layout that an image gives
+unfoldable pub layoutOf : Image → Layout
+layoutOf i =
+    record {
+      lengths = padded 16 (map (λ s. length (s .words)) (i .segments));
+      gates = padded 16 (map (λ s. s .gates) (i .segments));
+      start = i .start;
+      gatedomains = padded 16 (map (λ s. s .domain) (i .segments));
+      stacks = padded 8 (map (λ d. d .stack) (i .domains));
+      rights = padded 128 (allRows (i .domains));
+      segments = length (i .segments);
+      domains = length (i .domains);
+    }
+
+-- n rows, from row i on
+unfoldable pub rowsFrom : {A : Type 0} → (ℕ → A) → ℕ → ℕ → List A
+rowsFrom row i zero = []
+rowsFrom row i (suc n) = row i ∷ rowsFrom row (i + 1) n
+
+-- segment i of a layout with its words
+abbrev pub segmentAt : List ℕ → List ℕ → List ℕ → List ℕ → ℕ → Segment
+segmentAt lengths gates gatedomains words i =
+    record { gates = getD gates i 0; domain = getD gatedomains i 0; words = take (getD lengths i 0) (drop (baseOf lengths i) words) }
+
+-- domain i of a layout
+abbrev pub domainAt : ℕ → List ℕ → List ℕ → ℕ → Domain
+domainAt segments stacks rights i = record { stack = getD stacks i 0; rights = take segments (drop (16 * i) rights) }
+
+-- the segments of a layout with its words
+abbrev pub segmentsIn : Layout → List ℕ → List Segment
+segmentsIn l words = rowsFrom (segmentAt (l .lengths) (l .gates) (l .gatedomains) words) 0 (l .segments)
+
+-- the domains of a layout
+abbrev pub domainsIn : Layout → List Domain
+domainsIn l = rowsFrom (domainAt (l .segments) (l .stacks) (l .rights)) 0 (l .domains)
+
+-- the image of a layout with its words
+abbrev pub imageFrom : Layout → List ℕ → Image
+imageFrom l words = record { start = l .start; segments = segmentsIn l words; domains = domainsIn l }

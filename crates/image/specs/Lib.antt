@@ -1,0 +1,10 @@
+pub mod Bytes
+pub mod Chunk
+pub mod Head
+pub mod Segment
+pub mod Domain
+pub mod Image
+pub mod Rows
+pub mod Reader
+pub mod Output
+pub mod Writer
