@@ -24,7 +24,7 @@ use Rattle.instructions.specs.Turn.{Turned, ended, moved, entering, leaving, se
 
 module _ (depth : ℕ) where
   -- entering needs a frame free
-  abbrev Free : Answer Plan → Type 0
+  abbrev pub Free : Answer Plan → Type 0
   Free (refuse n) = Unit {0}
   Free (ok halt) = Unit {0}
   Free (ok (move a s w ps)) = Unit {0}

@@ -1,2 +1,5 @@
 pub mod Step
 pub mod Run
+pub mod Moves
+pub mod Rest
+pub mod Steps

@@ -2,18 +2,18 @@
 use Prim.Native.Nat.{ℕ, zero, suc, _+_}
 use mathlib.Core.Bool.{Bool, true, false}
 use mathlib.Core.List.{List}
-use lib.Dec.{leb}
+use lib.Dec.{eqb, leb}
 use lib.ListN.{length}
-use Rattle.words.specs.Answer.{Answer, refuse, ok, _>>_, require, if_then_else_}
+use Rattle.words.specs.Answer.{Answer, refuse, ok, if_then_else_}
 use Rattle.words.specs.Numbers.{memoryTooShort, notSound}
 use Rattle.state.specs.declared.record.Machine.{Machine}
 use Rattle.soundness.specs.Sound.{soundTest}
-use Rattle.processor.specs.Step.{Event, stopped, moved, crossing, Done, execute}
+use Rattle.processor.specs.Step.{Event, stopped, moved, crossing, isStop, Done, execute}
 
--- how a run ends; only a stretch ends at a crossing
+-- how a run ends; only a stretch ends at a crossing, and a call that is refused runs nothing
 pub data Ending : Type 0 where
   halted spent crossed : Ending
-  faulted : ℕ → Ending
+  faulted refused : ℕ → Ending
 
 pub record Ran : Type 0 where
   pub machine : Machine
@@ -47,6 +47,32 @@ runOf limit m words = runFrom false limit 0 m words
 abbrev pub stretchOf : ℕ → Machine → List ℕ → Ran
 stretchOf limit m words = runFrom true limit 0 m words
 
--- what every call judges first: 9, then 7
-unfoldable pub judged : {A : Type 0} → Machine → List ℕ → A → Answer A
-judged m words a = require (soundTest m) notSound >> require (leb 8192 (length words)) memoryTooShort >> ok a
+-- what every call on a machine judges first: 9, then 7
+unfoldable pub judged : Machine → List ℕ → ℕ
+judged m words = if soundTest m then (if leb 8192 (length words) then 0 else memoryTooShort) else notSound
+
+-- a refused call leaves record and words
+unfoldable pub calledOf : (Machine → List ℕ → Ran) → Machine → List ℕ → Ran
+calledOf run m words = if eqb (judged m words) 0 then run m words else ran m words 0 (refused (judged m words))
+
+-- the calls: a run and a stretch of any record, over any memory
+unfoldable pub runCall : ℕ → Machine → List ℕ → Ran
+runCall limit m words = calledOf (runOf limit) m words
+
+unfoldable pub stretchCall : ℕ → Machine → List ℕ → Ran
+stretchCall limit m words = calledOf (stretchOf limit) m words
+
+-- a step's record and words, its number, 0 where it was completed, and whether it halted
+pub record Step : Type 0 where
+  pub machine : Machine
+  pub words : List ℕ
+  pub number : ℕ
+  pub halted : Bool
+
+abbrev pub stepped : Machine → List ℕ → Answer Done → Step
+stepped m words (refuse n) = record { machine = m; words = words; number = n; halted = false }
+stepped m words (ok d) = record { machine = d .machine; words = d .words; number = 0; halted = isStop (d .event) }
+
+-- the call of a step
+unfoldable pub stepCall : Machine → List ℕ → Step
+stepCall m words = stepped m words (if eqb (judged m words) 0 then execute m words else refuse (judged m words))

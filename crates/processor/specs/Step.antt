@@ -1,5 +1,6 @@
 -- One instruction: decide from the record and what is read, then commit.
 use Prim.Native.Nat.{ℕ, _+_}
+use mathlib.Core.Bool.{Bool, true, false}
 use mathlib.Core.List.{List}
 use lib.ListN.{set}
 use Rattle.words.specs.Answer.{Answer, refuse, ok, _>>=_}
@@ -23,6 +24,11 @@ pub data Act : Type 0 where
 -- what a completed instruction was
 pub data Event : Type 0 where
   stopped moved crossing : Event
+
+abbrev pub isStop : Event → Bool
+isStop stopped = true
+isStop moved = false
+isStop crossing = false
 
 -- the record with this A, at this segment and word, with these pointers
 abbrev pub movedTo : Machine → ℕ → ℕ → ℕ → List Pointer → Machine

@@ -1,1 +1,6 @@
-// The processor: step, run and stretch.
+// Steps, runs and stretches of a machine.
+mod moves;
+pub mod outcome;
+mod rest;
+pub mod run;
+mod running;

@@ -1,0 +1,58 @@
+-- Runs made of single steps, and of stretches.
+use Prim.Native.Nat.{ℕ, zero, suc, _+_, _-_}
+use mathlib.Core.Bool.{Bool, true, false}
+use mathlib.Core.List.{List}
+use Rattle.state.specs.declared.record.Machine.{Machine}
+use Rattle.processor.specs.Step.{execute}
+use Rattle.processor.specs.Run.{Ending, halted, spent, crossed, faulted, refused, Ran, ran, after, runFrom, Step}
+
+-- a run that is spent makes one instruction more; one that has ended stays
+abbrev advanceFrom : Ran → Ending → Ran
+advanceFrom r halted = r
+advanceFrom r spent =
+    after false (λ m words. ran m words (r .count + 1) spent) (r .count) (r .machine) (r .words) (execute (r .machine) (r .words))
+advanceFrom r crossed = r
+advanceFrom r (faulted n) = r
+advanceFrom r (refused n) = r
+
+unfoldable pub advance : Ran → Ran
+advance r = advanceFrom r (r .ending)
+
+-- n instructions more
+unfoldable pub advances : ℕ → Ran → Ran
+advances zero r = r
+advances (suc n) r = advance (advances n r)
+
+-- n steps, one after the other
+abbrev pub steps : ℕ → Machine → List ℕ → Ran
+steps n m words = advances n (ran m words 0 spent)
+
+-- the number that a step gives for an ending, and whether it halted
+abbrev pub endingNumber : Ending → ℕ
+endingNumber halted = 0
+endingNumber spent = 0
+endingNumber crossed = 0
+endingNumber (faulted n) = n
+endingNumber (refused n) = n
+
+abbrev pub isHalted : Ending → Bool
+isHalted halted = true
+isHalted spent = false
+isHalted crossed = false
+isHalted (faulted n) = false
+isHalted (refused n) = false
+
+-- a run of one instruction as a step's answer
+abbrev pub answer : Ran → Step
+answer r = record { machine = r .machine; words = r .words; number = endingNumber (r .ending); halted = isHalted (r .ending) }
+
+-- a stretch that ended at a crossing goes on as a run, up to limit instructions in all
+abbrev onwardFrom : ℕ → Ran → Ending → Ran
+onwardFrom limit r halted = r
+onwardFrom limit r spent = r
+onwardFrom limit r crossed = runFrom false (limit - r .count) (r .count) (r .machine) (r .words)
+onwardFrom limit r (faulted n) = r
+onwardFrom limit r (refused n) = r
+
+unfoldable pub onward : ℕ → Ran → Ran
+onward limit r = onwardFrom limit r (r .ending)

@@ -1,0 +1,24 @@
+// What a run and a step answer.
+use state::record::Machine;
+
+// How a run ends. Only a stretch ends as crossed; a refused call runs nothing.
+pub enum End {
+    Halted,
+    Faulted(u8),
+    Spent,
+    Crossed,
+    Refused(u8),
+}
+
+pub struct Outcome {
+    pub machine: Machine,
+    pub count: u16,
+    pub end: End,
+}
+
+// The number of a refusal or a fault; 0 for a completed instruction.
+pub struct Stepped {
+    pub machine: Machine,
+    pub number: u8,
+    pub halted: bool,
+}

@@ -1,0 +1,91 @@
+// The calls on a machine: a step, a run, a stretch. Any record and any memory may be lent.
+ghost use mathlib.Core.Path.{_≡_};
+ghost use Rattle.processor.specs.Run.{runFrom, judged, calledOf, runCall, stretchCall, stepCall};
+ghost use Rattle.processor.specs.Rest.{endAnswer, ranAnswer, stepAnswer};
+ghost use Rattle.processor.specs.Steps.{endingNumber, isHalted};
+use crate::outcome::End;
+use crate::outcome::Outcome;
+use crate::outcome::Stepped;
+use crate::running::run_on;
+use soundness::sound;
+use state::record::Machine;
+
+// What every call judges first: 0, or the number of its refusal.
+fn judge(m: Machine, words: &[u32]) -> u8
+    ensures { λ r. ⌜ r ≡ judged m (now (words .entry)) ⌝ }
+{
+    if !sound(m) {
+        return 9;
+    }
+    if words.len() < 8192 {
+        return 7;
+    }
+    0
+}
+
+fn call(m: Machine, words: &mut [u32], limit: u16, stretch: bool) -> Outcome
+    ensures { λ o. ⌜ ranAnswer o (now (words .exit)) ≡ calledOf (runFrom stretch limit 0) m (now (words .entry)) ⌝ }
+{
+    let number = judge(m, words);
+    if number != 0 {
+        return Outcome {
+            machine: m,
+            count: 0,
+            end: End::Refused(number),
+        };
+    }
+    run_on(m, words, limit, stretch)
+}
+
+// The number that a step gives for an ending, and whether it halted.
+fn number_of(end: End) -> u8
+    ensures { λ n. ⌜ n ≡ endingNumber (endAnswer end) ⌝ }
+{
+    match end {
+        End::Halted => 0,
+        End::Faulted(n) => n,
+        End::Spent => 0,
+        End::Crossed => 0,
+        End::Refused(n) => n,
+    }
+}
+
+fn halts(end: End) -> bool
+    ensures { λ h. ⌜ h ≡ isHalted (endAnswer end) ⌝ }
+{
+    match end {
+        End::Halted => true,
+        End::Faulted(n) => false,
+        End::Spent => false,
+        End::Crossed => false,
+        End::Refused(n) => false,
+    }
+}
+
+// At most limit instructions.
+pub fn run(m: Machine, words: &mut [u32], limit: u16) -> Outcome
+    ensures { λ o. ⌜ ranAnswer o (now (words .exit)) ≡ runCall limit m (now (words .entry)) ⌝ }
+{
+    call(m, words, limit, false)
+}
+
+// At most limit instructions, up to and with the first completed crossing.
+pub fn stretch(m: Machine, words: &mut [u32], limit: u16) -> Outcome
+    ensures { λ o. ⌜ ranAnswer o (now (words .exit)) ≡ stretchCall limit m (now (words .entry)) ⌝ }
+{
+    call(m, words, limit, true)
+}
+
+// One instruction.
+pub fn step(m: Machine, words: &mut [u32]) -> Stepped
+    ensures { λ s. ⌜ stepAnswer s (now (words .exit)) ≡ stepCall m (now (words .entry)) ⌝ }
+{
+    let o = call(m, words, 1, false);
+    let machine = o.machine;
+    let end = o.end;
+    Stepped {
+        machine,
+        number: number_of(end),
+        halted: halts(end),
+    }
+}
