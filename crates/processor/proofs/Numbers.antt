@@ -1,0 +1,82 @@
+-- The number of a fault is one of 21-32, so never 0.
+use Prim.Native.Nat.{ℕ}
+use native.Mathlib.Omega.{arith}
+use mathlib.Core.Bool.{Bool, true, false, _&&_}
+use mathlib.Core.List.{List}
+use mathlib.Core.Path.{_≡_, refl}
+use borrow.Author.Tests.{eqb-false}
+use lib.Dec.{eqb, leb}
+use lib.ListN.{getD}
+use Rattle.words.specs.Answer.{refuse, ok, if_then_else_}
+use Rattle.words.specs.declared.pointer.Pointer.{Pointer}
+use Rattle.state.specs.declared.record.Machine.{Machine}
+use Rattle.state.specs.Record.{noPointer, inUse}
+use Rattle.machine.specs.declared.flag.Flag.the-variants as flag
+use Rattle.machine.specs.declared.flag.Access.the-variants as access
+use Rattle.machine.specs.Machine.{check}
+use Rattle.instructions.specs.Reader.{Reader, readWord, fetch}
+use Rattle.instructions.specs.Plan.{Plan, halt, move, store, enter, leave}
+use Rattle.crossings.specs.Crossing.{left, samePlace, leaveCheck, enterOf, leaveOf}
+use Rattle.processor.specs.Step.{Act, stop, proceed, put, cross, resolve, decide, commit, execute}
+use Rattle.processor.specs.Run.{faulted, runFrom, judged, stepped, stepCall}
+use Rattle.processor.proofs.Faults.{run-faulted}
+use Rattle.processor.proofs.Parts.{live, planned, frameFor, leaveNumber}
+use Rattle.processor.proofs.Fails.{Fault, Fails, judged-if, fails-accept, refused, fails-bind}
+use Rattle.processor.proofs.CheckNumbers.{static-judged, check-fails, read-fails, fetch-fails}
+use Rattle.processor.proofs.PlanNumbers.{plan-fails, frame-fails}
+
+-- a step of any machine
+module _ (m : Machine) (words : List ℕ) where
+  abbrev reader : Reader
+  reader = readWord m words
+
+  enter-fails : (p : Pointer) → Fails (enterOf m reader p)
+  unfolding enterOf
+  enter-fails p =
+      fails-bind (frameFor m reader) _
+      (frame-fails reader (read-fails m words) (getD (m .pointers) 0 noPointer) (m .registers .domain) (inUse (m .depth)) (live m) (getD (m .pointers) 1 noPointer)) (λ f. tt)
+
+  leave-fails : (p : Pointer) → Fails (leaveOf m p)
+  unfolding leaveOf leaveCheck
+  leave-fails p =
+      fails-accept (leaveNumber m p) (left m p (live m))
+      (judged-if (leb 1 (inUse (m .depth)) && (samePlace p (live m .back) && samePlace (getD (m .pointers) 1 noPointer) (live m .s))) _ 32
+      (static-judged (m .layout .lengths) (m .layout .rights) (live m .domain) flag.Execute (p .segment) (p .word)) (λ _. (omega arith, omega arith)))
+
+  resolve-fails : (plan : Plan) → Fails (resolve m reader plan)
+  resolve-fails halt = tt
+  resolve-fails (move a s w ps) = tt
+  resolve-fails (store p v) = tt
+  resolve-fails (enter p) = fails-bind (enterOf m reader p) (λ n. ok (cross n)) (enter-fails p) (λ n. tt)
+  resolve-fails (leave p) = fails-bind (leaveOf m p) (λ n. ok (cross n)) (leave-fails p) (λ n. tt)
+
+  decide-fails : Fails (decide m (fetch m words) reader)
+  unfolding decide
+  decide-fails =
+      fails-bind (planned m (fetch m words) reader) (resolve m reader)
+      (plan-fails reader (read-fails m words) (m .layout .lengths) (m .layout .gates) (m .layout .rights) (m .layout .stacks) (m .depth) (m .registers) (m .pointers) (fetch m words) (fetch-fails m words))
+      resolve-fails
+
+  commit-fails : (act : Act) → Fails (commit m words act)
+  unfolding commit
+  commit-fails stop = tt
+  commit-fails (proceed a s w ps) = tt
+  commit-fails (put p v) = fails-bind (check m access.Write p) _ (check-fails m access.Write p) (λ i. tt)
+  commit-fails (cross n) = tt
+
+  pub fault-number : (n : ℕ) → execute m words ≡ refuse n → Fault n
+  unfolding execute
+  fault-number n e = refused _ n (fails-bind (decide m (fetch m words) reader) (commit m words) decide-fails commit-fails) e
+
+  -- a step whose number is 0 did not fault
+  pub zero-completes : stepCall m words .number ≡ 0 → (n : ℕ) → execute m words ≡ refuse n → ⊥
+  unfolding stepCall
+  zero-completes z n e = by (eqb (judged m words) 0) refl (rw e at z)
+    where
+      by : (t : Bool) → eqb (judged m words) 0 ≡ t → stepped m words (if t then refuse n else refuse (judged m words)) .number ≡ 0 → ⊥
+      by true q z = let f = fault-number n e in omega (arith, f .0, z)
+      by false q z = eqb-false (judged m words) 0 q z
+
+-- the fault that a run ends with
+pub run-number : (stretch : Bool) (k n : ℕ) (m : Machine) (words : List ℕ) (f : ℕ) → runFrom stretch k n m words .ending ≡ faulted f → Fault f
+run-number stretch k n m words f e = fault-number (runFrom stretch k n m words .machine) (runFrom stretch k n m words .words) f (run-faulted stretch k n m words f e)

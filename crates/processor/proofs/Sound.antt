@@ -1,0 +1,125 @@
+-- A step and a run leave a sound machine sound.
+use Prim.Native.Nat.{ℕ, _+_}
+use native.Mathlib.Omega.{arith}
+use mathlib.Core.Bool.{Bool, true}
+use mathlib.Core.List.{List}
+use mathlib.Core.Path.{_≡_}
+use lib.ListN.{length}
+use Rattle.words.specs.Answer.{Answer, ok}
+use Rattle.words.specs.declared.pointer.Pointer.{Pointer}
+use Rattle.state.specs.declared.record.Machine.{Machine}
+use Rattle.state.specs.Bases.{basesOf}
+use Rattle.soundness.specs.Sound.{soundTest}
+use Rattle.soundness.proofs.Facts.{Sound, sound-facts, facts-sound}
+use Rattle.machine.specs.declared.flag.Flag.the-variants as flag
+use Rattle.machine.specs.declared.flag.Access.the-variants as access
+use Rattle.machine.specs.Static.{staticOf}
+use Rattle.machine.specs.Reference.{indexOf, accept, locateOf}
+use Rattle.machine.specs.Machine.{check}
+use Rattle.machine.proofs.Passes.{static-exists, exists-facts}
+use Rattle.instructions.specs.Reader.{Reader, readWord, fetch, fetchOf}
+use Rattle.instructions.specs.Plan.{Plan, halt, move, store, enter, leave}
+use Rattle.crossings.specs.Crossing.{enterOf, leaveOf}
+use Rattle.processor.specs.Step.{Act, stop, proceed, put, cross, Done, movedTo, resolve, decide, commit, execute}
+use Rattle.processor.specs.Run.{runFrom}
+use Rattle.processor.proofs.Says.{Says, said, says-bind, says-then, says-accept}
+use Rattle.processor.proofs.Runs.{run-keeps}
+use Rattle.processor.proofs.Parts.{planned}
+use Rattle.processor.proofs.Plans.{Placed, PlanSound, plan-sound}
+use Rattle.processor.proofs.Crossings.{Whole, stack-most, enter-whole, leave-whole}
+
+module _ (m : Machine) (w : Whole m) where
+  abbrev s : Sound m
+  s = w .sound
+
+  abbrev r-segment : ℕ
+  r-segment = m .registers .segment
+
+  abbrev r-word : ℕ
+  r-word = m .registers .word
+
+  -- after a fetch the location can move one word on
+  abbrev On : Type 0
+  On = Placed r-segment (r-word + 1) (m .pointers)
+
+  fetch-on : (words : List ℕ) → Says (λ x. On) (fetch m words)
+  unfolding fetch fetchOf locateOf
+  fetch-on words =
+      says-bind (λ i. On) (λ x. On) (accept verdict (indexOf (basesOf (m .layout .lengths)) r-segment r-word)) _ (says-accept (λ i. On) verdict _ on) (λ i h. h)
+    where
+      verdict : ℕ
+      verdict = staticOf (m .layout .lengths) (m .layout .rights) (m .registers .domain) flag.Execute r-segment r-word
+
+      on : verdict ≡ 0 → On
+      on e =
+          let f = exists-facts (m .layout .lengths) r-segment r-word (static-exists _ _ _ flag.Execute r-segment r-word e) in
+          record { segment = s .registers .segment; word = omega (arith, f .1, s .layout .lengths r-segment (f .0)); pointers = s .pointers }
+
+  -- the record moved on to a place
+  moved-whole : (a segment word : ℕ) (ps : List Pointer) → Placed segment word ps → Whole (movedTo m a segment word ps)
+  moved-whole a segment word ps p =
+      record {
+        sound = record {
+          layout = s .layout;
+          registers = record { domain = s .registers .domain; segment = p .segment; word = p .word };
+          pointers = p .pointers;
+          frames = s .frames;
+        };
+        room = w .room;
+      }
+
+  abbrev ActSound : Act → Type 0
+  ActSound stop = Unit {0}
+  ActSound (proceed a segment word ps) = Placed segment word ps
+  ActSound (put p v) = On
+  ActSound (cross n) = Whole n
+
+  abbrev Planned : Plan → Type 0
+  Planned = PlanSound (m .layout .lengths) (m .layout .gates) (m .layout .rights) (m .layout .stacks) (m .depth) (m .registers) (m .pointers)
+
+  resolve-sound : (read : Reader) (plan : Plan) → Planned plan → Says ActSound (resolve m read plan)
+  resolve-sound read halt h = tt
+  resolve-sound read (move a segment word ps) h = h
+  resolve-sound read (store p v) h = h
+  resolve-sound read (enter p) h = says-bind Whole ActSound (enterOf m read p) (λ n. ok (cross n)) (enter-whole m w read p (h .0) (h .1)) (λ n x. x)
+  resolve-sound read (leave p) h = says-bind Whole ActSound (leaveOf m p) (λ n. ok (cross n)) (leave-whole m w p) (λ n x. x)
+
+  decide-sound : (fetched : Answer ℕ) (read : Reader) → Says (λ x. On) fetched → Says ActSound (decide m fetched read)
+  unfolding decide
+  decide-sound fetched read on =
+      says-bind Planned ActSound (planned m fetched read) (resolve m read)
+      (plan-sound (m .layout .lengths) (m .layout .gates) (m .layout .rights) (m .layout .stacks) (m .depth) (m .registers) (m .pointers)
+      (s .layout .lengths) (stack-most (m .layout) (s .layout) (m .registers .domain)) (s .pointers) read fetched on)
+      (resolve-sound read)
+
+  abbrev WholeDone : Done → Type 0
+  WholeDone d = Whole (d .machine)
+
+  commit-sound : (words : List ℕ) (a : Act) → ActSound a → Says WholeDone (commit m words a)
+  unfolding commit
+  commit-sound words stop h = w
+  commit-sound words (proceed a segment word ps) h = moved-whole a segment word ps h
+  commit-sound words (put p v) h = says-then WholeDone (check m access.Write p) _ (λ i. moved-whole (m .registers .a) r-segment (r-word + 1) (m .pointers) h)
+  commit-sound words (cross n) h = h
+
+  step-whole : (words : List ℕ) (d : Done) → execute m words ≡ ok d → Whole (d .machine)
+  unfolding execute
+  step-whole words d e =
+      said WholeDone _ d
+      (says-bind ActSound WholeDone (decide m (fetch m words) (readWord m words)) (commit m words) (decide-sound (fetch m words) (readWord m words) (fetch-on words)) (commit-sound words)) e
+
+abbrev Good : Machine → Type 0
+Good m = (soundTest m ≡ true) × (length (m .frames) ≡ 8)
+
+good : (m : Machine) → Whole m → Good m
+good m w = (facts-sound m (w .sound), w .room)
+
+whole : (m : Machine) → Good m → Whole m
+whole m g = record { sound = sound-facts m (g .0); room = g .1 }
+
+module _ (m : Machine) (words : List ℕ) (e : soundTest m ≡ true) (room : length (m .frames) ≡ 8) where
+  pub step-sound : (d : Done) → execute m words ≡ ok d → (soundTest (d .machine) ≡ true) × (length (d .machine .frames) ≡ 8)
+  step-sound d q = good (d .machine) (step-whole m (whole m (e, room)) words d q)
+
+  pub run-sound : (stretch : Bool) (k n : ℕ) → (soundTest (runFrom stretch k n m words .machine) ≡ true) × (length (runFrom stretch k n m words .machine .frames) ≡ 8)
+  run-sound stretch k n = good _ (run-keeps (λ x now. Whole x) (λ x now d q h. step-whole x h now d q) stretch k n m words (whole m (e, room)))

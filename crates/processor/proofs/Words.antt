@@ -1,0 +1,108 @@
+-- A run keeps the layout, the number of words, and the words past the last segment.
+use Prim.Native.Nat.{ℕ, _≤_}
+use native.Mathlib.Omega.{arith}
+use mathlib.Core.Bool.{Bool}
+use mathlib.Core.List.{List}
+use mathlib.Core.Path.{_≡_, refl, ap, _∙_}
+use lib.ListN.{length, getD, set, length-set}
+use lib.Seq.{getD-set-other}
+use Rattle.words.specs.Answer.{Answer, ok}
+use Rattle.words.specs.declared.pointer.Pointer.{Pointer}
+use Rattle.state.specs.declared.record.Layout.{Layout}
+use Rattle.state.specs.declared.record.Machine.{Machine}
+use Rattle.state.specs.Bases.{wordsIn}
+use Rattle.machine.specs.declared.flag.Access.the-variants as access
+use Rattle.machine.specs.Machine.{check}
+use Rattle.machine.proofs.Places.{check-lt}
+use Rattle.instructions.specs.Reader.{Reader, readWord, fetch}
+use Rattle.instructions.specs.Plan.{Plan, halt, move, store, enter, leave}
+use Rattle.crossings.specs.Crossing.{enterOf, leaveOf, entered, left}
+use Rattle.processor.specs.Step.{Act, stop, proceed, put, cross, Done, resolve, decide, commit, execute}
+use Rattle.processor.specs.Run.{runFrom}
+use Rattle.processor.proofs.Parts.{live, planned, frameFor, leaveNumber}
+use Rattle.processor.proofs.Says.{Says, itself, said, says-bind, says-then, says-accept}
+use Rattle.processor.proofs.Runs.{run-keeps}
+
+-- a record and words that came of those of a start
+pub record Came (l : Layout) (words : List ℕ) (n : Machine) (now : List ℕ) : Type 0 where
+  pub layout : n .layout ≡ l
+  pub room : length now ≡ length words
+  pub past : (i : ℕ) → wordsIn (l .lengths) ≤ i → getD now i 0 ≡ getD words i 0
+
+-- a crossing keeps the layout
+module _ (m : Machine) where
+  abbrev Same : Machine → Type 0
+  Same n = n .layout ≡ m .layout
+
+  enter-same : (read : Reader) (p : Pointer) → Says Same (enterOf m read p)
+  unfolding enterOf entered
+  enter-same read p = says-then Same (frameFor m read) (λ f. ok (entered m p f)) (λ f. refl)
+
+  leave-same : (p : Pointer) → Says Same (leaveOf m p)
+  unfolding leaveOf left
+  leave-same p = says-accept Same (leaveNumber m p) (left m p (live m)) (λ _. refl)
+
+  abbrev ActSame : Act → Type 0
+  ActSame stop = Unit {0}
+  ActSame (proceed a s w ps) = Unit {0}
+  ActSame (put p v) = Unit {0}
+  ActSame (cross n) = Same n
+
+  resolve-same : (read : Reader) (plan : Plan) → Says ActSame (resolve m read plan)
+  resolve-same read halt = tt
+  resolve-same read (move a s w ps) = tt
+  resolve-same read (store p v) = tt
+  resolve-same read (enter p) = says-bind Same ActSame (enterOf m read p) (λ n. ok (cross n)) (enter-same read p) (λ n h. h)
+  resolve-same read (leave p) = says-bind Same ActSame (leaveOf m p) (λ n. ok (cross n)) (leave-same p) (λ n h. h)
+
+  decide-same : (fetched : Answer ℕ) (read : Reader) → Says ActSame (decide m fetched read)
+  unfolding decide
+  decide-same fetched read = says-then ActSame (planned m fetched read) (resolve m read) (resolve-same read)
+
+-- a step from a record and words that came of a start
+module _ (l : Layout) (words : List ℕ) (m : Machine) (now : List ℕ) (h : Came l words m now) where
+  abbrev CameBy : Done → Type 0
+  CameBy d = Came l words (d .machine) (d .words)
+
+  stored-came : (n : Machine) → n .layout ≡ m .layout → (p : Pointer) (v i : ℕ) → check m access.Write p ≡ ok i → Came l words n (set now i v)
+  stored-came n same p v i e = record {
+    layout = same ∙ h .layout;
+    room = length-set now i v ∙ h .room;
+    past = λ j b. getD-set-other now i j v 0 (apart j b) ∙ h .past j b;
+  }
+    where
+      apart : (j : ℕ) → wordsIn (l .lengths) ≤ j → j ≡ i → ⊥
+      apart j b q =
+          let z : wordsIn (m .layout .lengths) ≡ wordsIn (l .lengths) = ap (λ (x : Layout). wordsIn (x .lengths)) (h .layout) in
+          omega (arith, check-lt m access.Write p i e)
+
+  commit-came : (a : Act) → ActSame m a → Says CameBy (commit m now a)
+  unfolding commit
+  commit-came stop s = h
+  commit-came (proceed a s w ps) _ = record { layout = h .layout; room = h .room; past = h .past }
+  commit-came (put p v) _ =
+      says-bind (λ i. check m access.Write p ≡ ok i) CameBy (check m access.Write p) _ (itself (check m access.Write p))
+      (λ i e. stored-came _ refl p v i e)
+  commit-came (cross n) s = record { layout = s ∙ h .layout; room = h .room; past = h .past }
+
+  step-came : (d : Done) → execute m now ≡ ok d → CameBy d
+  unfolding execute
+  step-came d e =
+      said CameBy _ d
+      (says-bind (ActSame m) CameBy (decide m (fetch m now) (readWord m now)) (commit m now) (decide-same m (fetch m now) (readWord m now)) commit-came) e
+
+module _ (stretch : Bool) (k n : ℕ) (m : Machine) (words : List ℕ) where
+  run-came : Came (m .layout) words (runFrom stretch k n m words .machine) (runFrom stretch k n m words .words)
+  run-came =
+      run-keeps (Came (m .layout) words) (λ x now d e h. step-came (m .layout) words x now h d e) stretch k n m words
+      (record { layout = refl; room = refl; past = λ i l. refl })
+
+  pub run-layout : runFrom stretch k n m words .machine .layout ≡ m .layout
+  run-layout = run-came .layout
+
+  pub run-length : length (runFrom stretch k n m words .words) ≡ length words
+  run-length = run-came .room
+
+  -- words past the last segment never change
+  pub run-past : (i : ℕ) → wordsIn (m .layout .lengths) ≤ i → getD (runFrom stretch k n m words .words) i 0 ≡ getD words i 0
+  run-past i l = run-came .past i l
