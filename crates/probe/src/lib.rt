@@ -1,4 +1,8 @@
-// A library in C's calling convention that answers single references, for comparison with other implementations.
+// A library in C's calling convention that answers single references, reads and writes images and runs machines, for comparison with other implementations.
+pub mod read_image;
+pub mod run_machine;
+pub mod write_image;
+
 ghost use mathlib.Core.Path.{_≡_};
 ghost use Rattle.probe.specs.Check.{accessOf, checkOf};
 use machine::flag::Access;

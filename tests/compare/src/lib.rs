@@ -1,55 +1,23 @@
-//! The proved checks held against the reference implementation's.
+//! The proved library held against the reference implementation.
 
 mod answers;
-mod library;
+mod checks;
+pub mod images;
+#[cfg_attr(library_missing, path = "library_missing.rs")]
+pub mod library;
 mod references;
 
 pub use answers::{Answers, Kind};
+pub use checks::compare_checks;
+pub use references::{Reference, REFUSED};
 
-use generator::{records, Rng};
-use reference::{record_bytes, Machine};
-use references::Reference;
+use std::fmt::Write;
 
-/// References asked of each record.
-const REFERENCES: u64 = 8;
-
-/// Asks `count` references of random records. Gives the answers that both
-/// implementations agreed on, or says what they differ in.
-pub fn compare_checks(seed: u64, count: u64) -> Result<Answers, String> {
-    let mut answers = Answers::default();
-    let mut index = 0;
-    while answers.total() < count {
-        let mut rng = Rng::new(seed, index);
-        let (kind, machine) = record(&mut rng);
-        let bytes = record_bytes(&machine);
-        for _ in 0..REFERENCES.min(count - answers.total()) {
-            let asked = Reference::random(&mut rng, &machine);
-            let answer = same_answer(&machine, &bytes, asked)?;
-            answers.add(kind, answer);
-        }
-        index += 1;
+/// Bytes in hexadecimal.
+fn hex(bytes: &[u8]) -> String {
+    let mut text = String::with_capacity(2 * bytes.len());
+    for byte in bytes {
+        let _ = write!(text, "{byte:02x}");
     }
-    Ok(answers)
-}
-
-/// A record of one of the three kinds.
-fn record(rng: &mut Rng) -> (Kind, Machine) {
-    match rng.below(5) {
-        0 | 1 => (Kind::MidRun, records::mid_run(rng).machine),
-        2 | 3 => (Kind::Sound, records::sound(rng).machine),
-        _ => (Kind::Garbage, records::garbage(rng).machine),
-    }
-}
-
-/// The answer of both implementations.
-fn same_answer(machine: &Machine, bytes: &[u8], asked: Reference) -> Result<u32, String> {
-    let due = asked.answer(machine);
-    let given = library::check(bytes, asked)?;
-    if given == due {
-        return Ok(given);
-    }
-    let hex: String = bytes.iter().map(|byte| format!("{byte:02x}")).collect();
-    Err(format!(
-        "{asked:?}\nreference answers {due:#x}, library {given:#x}\nrecord {hex}"
-    ))
+    text
 }

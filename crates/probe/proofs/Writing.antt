@@ -1,0 +1,88 @@
+-- What the writer answers, as one number.
+use Prim.Native.Nat.{ℕ, _+_, _≤_}
+use native.Mathlib.Omega.{arith}
+use native.Mathlib.Nat.{mul-le-mul}
+use mathlib.Core.Path.{_≡_, refl, sym, ap, _∙_, subst}
+use mathlib.Core.Bool.{Bool, true, false}
+use mathlib.Core.List.{List}
+use borrow.Author.Tests.{leb-true}
+use lib.Dec.{leb}
+use lib.ListN.{length}
+use Rattle.words.specs.Answer.{Answer, ok, _>>_, require}
+use Rattle.state.specs.declared.record.Machine.{Machine}
+use Rattle.soundness.specs.Sound.{soundTest}
+use Rattle.soundness.proofs.Facts.{sound-facts}
+use Rattle.snapshot.specs.Tabulate.{tabulate}
+use Rattle.snapshot.specs.Read.{recordOf}
+use Rattle.image.specs.Image.{imageFrom, bytesOf}
+use Rattle.image.specs.Reader.{mapped}
+use Rattle.image.specs.Writer.{writeOf, writtenOf}
+use Rattle.image.proofs.Sizes.{image-size}
+use Rattle.image.specs.declared.writer.Written.{Written}
+use Rattle.probe.specs.Check.{codeOf}
+use Rattle.probe.specs.Images.{imageWritten, writeCode}
+
+-- the writer's answer, by its three tests
+abbrev tests : Bool → Bool → Bool → List ℕ → Answer (List ℕ)
+tests sound enough room bytes = require sound 9 >> require enough 7 >> require room 8 >> ok bytes
+
+accepted : (s e r : Bool) (bytes : List ℕ) → writtenOf (tests s e r bytes) .number ≡ 0 → codeOf (mapped length (tests s e r bytes)) ≡ writtenOf (tests s e r bytes) .length
+unfolding writtenOf
+accepted true true true bytes h = refl
+accepted true true false bytes h = absurd (omega arith)
+accepted true false r bytes h = absurd (omega arith)
+accepted false e r bytes h = absurd (omega arith)
+
+refused : (s e r : Bool) (bytes : List ℕ) → (writtenOf (tests s e r bytes) .number ≡ 0 → ⊥)
+    → codeOf (mapped length (tests s e r bytes)) ≡ 0x10000 + writtenOf (tests s e r bytes) .number
+unfolding writtenOf
+refused true true true bytes h = absurd (h refl)
+refused true true false bytes h = refl
+refused true false r bytes h = refl
+refused false e r bytes h = refl
+
+short : (s e r : Bool) (bytes : List ℕ) → (s ≡ true → e ≡ true → length bytes ≤ 33080) → writtenOf (tests s e r bytes) .length ≤ 33080
+unfolding writtenOf
+short true true true bytes h = h refl refl
+short true true false bytes h = omega arith
+short true false r bytes h = omega arith
+short false e r bytes h = omega arith
+
+-- the image of a sound record has at most 33,080 bytes
+sound-short : (m : Machine) (words : List ℕ) → length (m .layout .rights) ≡ 128 → soundTest m ≡ true → leb 8192 (length words) ≡ true → length (bytesOf (imageFrom (m .layout) words)) ≤ 33080
+sound-short m words wide s e =
+    let f = sound-facts m s .layout in
+    let h : 5 + m .layout .segments ≤ 21 = omega (arith, f .segments) in
+    omega (arith, image-size (m .layout) words f (leb-true _ _ e) wide, mul-le-mul (f .domains) h, f .segments, f .words)
+
+rights-wide : (bytes : List ℕ) → length (recordOf bytes .layout .rights) ≡ 128
+unfolding recordOf tabulate
+rights-wide bytes = refl
+
+-- the answers about the record that bytes hold
+module _ (bytes words output : List ℕ) where
+  abbrev whole : List ℕ
+  whole = bytesOf (imageFrom (recordOf bytes .layout) words)
+
+  abbrev room : Bool
+  room = leb (length whole) (length output)
+
+  abbrev enough : Bool
+  enough = leb 8192 (length words)
+
+  module _ (w : Written) (is : w ≡ writtenOf (imageWritten bytes words output)) where
+    numbers : w .number ≡ writtenOf (imageWritten bytes words output) .number
+    numbers = ap (λ (x : Written). x .number) is
+
+    pub code-accepted : w .number ≡ 0 → w .length ≡ writeCode bytes words output
+    unfolding writeOf writeCode
+    code-accepted h = ap (λ (x : Written). x .length) is ∙ sym (accepted (soundTest (recordOf bytes)) enough room whole (sym numbers ∙ h))
+
+    pub code-refused : (w .number ≡ 0 → ⊥) → 0x10000 + w .number ≡ writeCode bytes words output
+    unfolding writeOf writeCode
+    code-refused h = ap (λ (n : ℕ). 0x10000 + n) numbers ∙ sym (refused (soundTest (recordOf bytes)) enough room whole (λ z. h (numbers ∙ z)))
+
+    pub written-short : w .length ≤ 33080
+    unfolding writeOf
+    written-short =
+        subst (λ (x : Written). x .length ≤ 33080) (sym is) (short (soundTest (recordOf bytes)) enough room whole (sound-short (recordOf bytes) words (rights-wide bytes)))

@@ -1,0 +1,152 @@
+//! `bench_images`: reads and writes the longest image with the proved library
+//! and with the reference, in turns, and prints the best time of each.
+//!
+//! Both take the record as bytes and give it back as bytes. A call that is
+//! refused at once does that alone, so the difference is the reader or writer
+//! by itself. No buffer is cleared between calls.
+
+use compare::images::samples;
+use compare::library;
+use reference::{machine_from_bytes, read_image, record_bytes, write_image};
+use reference::{Machine, Refusal, LONGEST_IMAGE, MEMORY_WORDS};
+use std::hint::black_box;
+use std::time::Instant;
+
+/// Rounds, of which the best counts.
+const ROUNDS: usize = 300;
+/// Calls in a round.
+const CALLS: u32 = 20;
+
+/// What a call works on.
+struct Buffers {
+    image: Vec<u8>,
+    record: Vec<u8>,
+    not_sound: Vec<u8>,
+    words: Vec<u32>,
+    output: Vec<u8>,
+}
+
+impl Buffers {
+    fn new(image: &[u8]) -> Buffers {
+        let machine = record_bytes(&Machine::default());
+        Buffers {
+            image: image.to_vec(),
+            record: machine.clone(),
+            not_sound: machine,
+            words: vec![0; MEMORY_WORDS],
+            output: vec![0; LONGEST_IMAGE],
+        }
+    }
+}
+
+/// A kind of call, and both ways to make it.
+struct Work {
+    library: fn(&mut Buffers),
+    reference: fn(&mut Buffers),
+}
+
+fn library_read(b: &mut Buffers) {
+    black_box(library::read(&b.image, &mut b.record, &mut b.words));
+}
+
+fn library_refused_read(b: &mut Buffers) {
+    black_box(library::read(&[], &mut b.record, &mut b.words));
+}
+
+fn library_write(b: &mut Buffers) {
+    black_box(library::write(&b.record, &b.words, &mut b.output));
+}
+
+fn library_refused_write(b: &mut Buffers) {
+    black_box(library::write(&b.not_sound, &b.words, &mut b.output));
+}
+
+fn reads(image: &[u8], record: &mut [u8], words: &mut [u32]) -> Result<(), Refusal> {
+    let mut machine = machine_from_bytes(record).expect("a record");
+    let answer = read_image(image, &mut machine, words);
+    record.copy_from_slice(&record_bytes(&machine));
+    answer
+}
+
+fn writes(record: &[u8], words: &[u32], output: &mut [u8]) -> Result<usize, Refusal> {
+    let machine = machine_from_bytes(record).expect("a record");
+    write_image(&machine, words, output)
+}
+
+fn reference_read(b: &mut Buffers) {
+    let _ = black_box(reads(black_box(&b.image), &mut b.record, &mut b.words));
+}
+
+fn reference_refused_read(b: &mut Buffers) {
+    let _ = black_box(reads(black_box(&[]), &mut b.record, &mut b.words));
+}
+
+fn reference_write(b: &mut Buffers) {
+    let _ = black_box(writes(black_box(&b.record), &b.words, &mut b.output));
+}
+
+fn reference_refused_write(b: &mut Buffers) {
+    let _ = black_box(writes(black_box(&b.not_sound), &b.words, &mut b.output));
+}
+
+const WORK: [Work; 4] = [
+    Work {
+        library: library_read,
+        reference: reference_read,
+    },
+    Work {
+        library: library_refused_read,
+        reference: reference_refused_read,
+    },
+    Work {
+        library: library_write,
+        reference: reference_write,
+    },
+    Work {
+        library: library_refused_write,
+        reference: reference_refused_write,
+    },
+];
+
+/// Microseconds for each call of a round.
+fn time(call: fn(&mut Buffers), buffers: &mut Buffers) -> f64 {
+    let begun = Instant::now();
+    for _ in 0..CALLS {
+        call(black_box(buffers));
+    }
+    begun.elapsed().as_secs_f64() * 1e6 / f64::from(CALLS)
+}
+
+fn row(name: &str, [library, reference]: [f64; 2]) {
+    let ratio = reference / library;
+    println!("{name:<24}{library:>9.2}{reference:>11.2}{ratio:>15.2}");
+}
+
+fn main() {
+    if let Err(missing) = library::linked() {
+        eprintln!("{missing}");
+        std::process::exit(1);
+    }
+    let samples = samples();
+    let image = &samples.last().expect("ten").bytes;
+    let [mut a, mut b] = [(); 2].map(|()| Buffers::new(image));
+    let mut best = [[f64::INFINITY; 2]; WORK.len()];
+    for _ in 0..ROUNDS {
+        for (times, work) in best.iter_mut().zip(&WORK) {
+            times[0] = times[0].min(time(work.library, &mut a));
+            times[1] = times[1].min(time(work.reference, &mut b));
+        }
+    }
+    for buffers in [&a, &b] {
+        assert!(buffers.output == *image, "written as read");
+    }
+    let [read, refused_read, write, refused_write] = best;
+    let less = |[a, b]: [f64; 2], [c, d]: [f64; 2]| [a - c, b - d];
+    println!("µs per image              library  reference  library's speed");
+    row("read", read);
+    row("  refused at once", refused_read);
+    row("  the reader alone", less(read, refused_read));
+    row("write", write);
+    row("  refused at once", refused_write);
+    row("  the writer alone", less(write, refused_write));
+}
