@@ -30,6 +30,15 @@ extern "C" {
         output: *mut u8,
         output_length: usize,
     ) -> u32;
+
+    fn zenkorv_run(
+        bytes: *mut u8,
+        length: usize,
+        words: *mut u32,
+        word_count: usize,
+        limit: u16,
+        stretches: u8,
+    ) -> u32;
 }
 
 /// Whether the library is linked; it is.
@@ -83,6 +92,23 @@ pub fn write(bytes: &[u8], words: &[u32], output: &mut [u8]) -> u32 {
             words.len(),
             output.as_mut_ptr(),
             output.len(),
+        )
+    }
+}
+
+/// Runs the machine whose record `bytes` hold, or makes a stretch of it; the
+/// ending and the count.
+pub fn run(bytes: &mut [u8], words: &mut [u32], limit: u16, stretches: bool) -> u32 {
+    // SAFETY: each pointer and length are those of a slice. The function
+    // writes within them.
+    unsafe {
+        zenkorv_run(
+            bytes.as_mut_ptr(),
+            bytes.len(),
+            words.as_mut_ptr(),
+            words.len(),
+            limit,
+            u8::from(stretches),
         )
     }
 }
