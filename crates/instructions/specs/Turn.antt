@@ -2,6 +2,8 @@
 use Prim.Native.Nat.{ℕ, _+_}
 use mathlib.Core.Bool.{Bool, true, false}
 use mathlib.Core.List.{List}
+use mathlib.Core.Path.{_≡_}
+use lib.ListN.{set}
 use Rattle.words.specs.Answer.{Answer, refuse, ok, _>>=_, if_then_else_}
 use Rattle.words.specs.declared.pointer.Pointer.{Pointer}
 use Rattle.state.specs.declared.record.Frame.{Frame}
@@ -21,16 +23,21 @@ pub data Turned : Type 0 where
   moved : Registers → List Pointer → Turned
   entering leaving : Pointer → Turned
 
--- what the code's answer stands for
+-- what the code's answer stands for, over the pointers that the instruction found
 abbrev pub eventAnswer : Registers → List Pointer → Event → Answer Turned
 eventAnswer r pointers event.Moved = ok (moved r pointers)
+eventAnswer r pointers (event.Pointed i p) = ok (moved r (set pointers i p))
 eventAnswer r pointers event.Halted = ok ended
 eventAnswer r pointers (event.Entering p) = ok (entering p)
 eventAnswer r pointers (event.Leaving p) = ok (leaving p)
 eventAnswer r pointers (event.Faulted n) = refuse n
 
-abbrev pub turnAnswer : Turn → Answer Turned
-turnAnswer t = eventAnswer (t .registers) (t .pointers) (t .event)
+abbrev pub turnAnswer : List Pointer → Turn → Answer Turned
+turnAnswer pointers t = eventAnswer (t .registers) pointers (t .event)
+
+-- the same, whatever the pointers are
+abbrev pub Turns : Turn → (List Pointer → Answer Turned) → Type 0
+Turns t f = (pointers : List Pointer) → turnAnswer pointers t ≡ f pointers
 
 -- the registers with this A at this segment and word
 abbrev pub registersAt : Registers → ℕ → ℕ → ℕ → Registers

@@ -2,16 +2,15 @@
 ghost use mathlib.Core.Path.{_≡_};
 ghost use Prim.Native.Nat.{_<_, _+_};
 ghost use Rattle.words.specs.Answer.{ok, if_then_else_};
-ghost use Rattle.instructions.specs.Reader.{readOf};
+ghost use Rattle.instructions.specs.Reader.{readOf, writtenOf};
 ghost use Rattle.machine.specs.Reference.{accept};
 ghost use Rattle.instructions.specs.Plan.{store};
 ghost use Rattle.instructions.specs.Instruction.{jumpCheck, callWay, operateOf, stackOf};
-ghost use Rattle.instructions.specs.Turn.{turnAnswer, loaded, called, settled, settledWords, moved, leaving, registersAt};
+ghost use Rattle.instructions.specs.Turn.{Turns, loaded, called, settled, moved, leaving, registersAt};
 use crate::access::WordAnswer;
 use crate::access::read;
 use crate::access::write;
 use crate::pointers::stack_of;
-use crate::pointers::with_base;
 use crate::transfer::CallAnswer;
 use crate::transfer::call_way;
 use crate::transfer::jump_check;
@@ -24,9 +23,9 @@ use words::arithmetic::sum;
 use words::pointer::Pointer;
 
 // On to the next word with another A.
-pub fn onward(r: Registers, pointers: [Pointer; 8], a: u32) -> Turn
+pub fn onward(r: Registers, a: u32, event: Event) -> Turn
     requires { ⌜ r .word < 65535 ⌝ }
-    ensures { λ t. ⌜ turnAnswer t ≡ ok (moved (registersAt r a (r .segment) (r .word + 1)) pointers) ⌝ }
+    ensures { λ t. ⌜ t ≡ record { registers = registersAt r a (r .segment) (r .word + 1); event = event } ⌝ }
 {
     let word = r.word + 1;
     let registers = Registers {
@@ -35,16 +34,12 @@ pub fn onward(r: Registers, pointers: [Pointer; 8], a: u32) -> Turn
         segment: r.segment,
         domain: r.domain,
     };
-    Turn {
-        pointers,
-        registers,
-        event: Event::Moved,
-    }
+    Turn { registers, event }
 }
 
 // On to a place.
-pub fn go_to(r: Registers, pointers: [Pointer; 8], p: Pointer) -> Turn
-    ensures { λ t. ⌜ turnAnswer t ≡ ok (moved (registersAt r (r .a) (p .segment) (p .word)) pointers) ⌝ }
+pub fn go_to(r: Registers, p: Pointer, event: Event) -> Turn
+    ensures { λ t. ⌜ t ≡ record { registers = registersAt r (r .a) (p .segment) (p .word); event = event } ⌝ }
 {
     let registers = Registers {
         a: r.a,
@@ -52,19 +47,14 @@ pub fn go_to(r: Registers, pointers: [Pointer; 8], p: Pointer) -> Turn
         segment: p.segment,
         domain: r.domain,
     };
-    Turn {
-        pointers,
-        registers,
-        event: Event::Moved,
-    }
+    Turn { registers, event }
 }
 
 // Nothing moves.
-pub fn stay(r: Registers, pointers: [Pointer; 8], event: Event) -> Turn
-    ensures { λ t. ⌜ t ≡ record { pointers = pointers; registers = r; event = event } ⌝ }
+pub fn stay(r: Registers, event: Event) -> Turn
+    ensures { λ t. ⌜ t ≡ record { registers = r; event = event } ⌝ }
 {
     Turn {
-        pointers,
         registers: r,
         event,
     }
@@ -92,16 +82,15 @@ pub fn load<'a>(
     depth: u8,
     frame: Frame,
     r: Registers,
-    pointers: [Pointer; 8],
     opcode: u8,
     p: Pointer,
 ) -> Turn
     requires { ⌜ r .word < 65535 ⌝ }
-    ensures { λ t. ⌜ turnAnswer t ≡ loaded r pointers opcode (readOf (now (lengths .entry)) (now (rights .entry)) (now (bases .entry)) (now (words .entry)) (r .domain) depth frame p) ⌝ }
+    ensures { λ t. ⌜ Turns t (λ ps. loaded r ps opcode (readOf (now (lengths .entry)) (now (rights .entry)) (now (bases .entry)) (now (words .entry)) (r .domain) depth frame p)) ⌝ }
 {
     match read(lengths, rights, bases, words, r.domain, depth, frame, p) {
-        WordAnswer::Refused(n) => stay(r, pointers, Event::Faulted(n)),
-        WordAnswer::Word(w) => onward(r, pointers, operate(opcode, r.a, w)),
+        WordAnswer::Refused(n) => stay(r, Event::Faulted(n)),
+        WordAnswer::Word(w) => onward(r, operate(opcode, r.a, w), Event::Moved),
     }
 }
 
@@ -114,13 +103,12 @@ pub fn save<'a>(
     depth: u8,
     frame: Frame,
     r: Registers,
-    pointers: [Pointer; 8],
     p: Pointer,
     value: u32,
 ) -> Turn
     requires { ⌜ r .word < 65535 ⌝ }
-    ensures { λ t. ⌜ turnAnswer t ≡ settled (now (lengths .entry)) (now (rights .entry)) (now (bases .entry)) (now (words .entry)) depth frame r pointers (store p value) ⌝ }
-    ensures { λ t. ⌜ now (words .exit) ≡ settledWords (now (lengths .entry)) (now (rights .entry)) (now (bases .entry)) (now (words .entry)) depth frame r pointers (ok (store p value)) ⌝ }
+    ensures { λ t. ⌜ Turns t (λ ps. settled (now (lengths .entry)) (now (rights .entry)) (now (bases .entry)) (now (words .entry)) depth frame r ps (store p value)) ⌝ }
+    ensures { λ t. ⌜ now (words .exit) ≡ writtenOf (now (lengths .entry)) (now (rights .entry)) (now (bases .entry)) (now (words .entry)) (r .domain) depth frame p value ⌝ }
 {
     let n = write(
         lengths,
@@ -134,26 +122,20 @@ pub fn save<'a>(
         value,
     );
     if n != 0 {
-        return stay(r, pointers, Event::Faulted(n));
+        return stay(r, Event::Faulted(n));
     }
-    onward(r, pointers, r.a)
+    onward(r, r.a, Event::Moved)
 }
 
 // JUMP.
-pub fn jump<'a>(
-    lengths: &'a [u16; 16],
-    rights: &'a [u8; 128],
-    r: Registers,
-    pointers: [Pointer; 8],
-    p: Pointer,
-) -> Turn
-    ensures { λ t. ⌜ turnAnswer t ≡ accept (jumpCheck (now (lengths .entry)) (now (rights .entry)) (r .domain) p) (moved (registersAt r (r .a) (p .segment) (p .word)) pointers) ⌝ }
+pub fn jump<'a>(lengths: &'a [u16; 16], rights: &'a [u8; 128], r: Registers, p: Pointer) -> Turn
+    ensures { λ t. ⌜ Turns t (λ ps. accept (jumpCheck (now (lengths .entry)) (now (rights .entry)) (r .domain) p) (moved (registersAt r (r .a) (p .segment) (p .word)) ps)) ⌝ }
 {
     let n = jump_check(lengths, rights, r.domain, p);
     if n != 0 {
-        return stay(r, pointers, Event::Faulted(n));
+        return stay(r, Event::Faulted(n));
     }
-    go_to(r, pointers, p)
+    go_to(r, p, Event::Moved)
 }
 
 // CALL, up to the argument list.
@@ -164,18 +146,21 @@ pub fn call<'a>(
     stacks: &'a [u8; 8],
     depth: u8,
     r: Registers,
-    pointers: [Pointer; 8],
     p: Pointer,
 ) -> Turn
-    ensures { λ t. ⌜ turnAnswer t ≡ called r pointers (stackOf (now (stacks .entry)) (r .domain)) p (callWay (now (lengths .entry)) (now (gates .entry)) (now (rights .entry)) (r .domain) depth p) ⌝ }
+    ensures { λ t. ⌜ Turns t (λ ps. called r ps (stackOf (now (stacks .entry)) (r .domain)) p (callWay (now (lengths .entry)) (now (gates .entry)) (now (rights .entry)) (r .domain) depth p)) ⌝ }
 {
     match call_way(lengths, gates, rights, r.domain, depth, p) {
-        CallAnswer::Refused(n) => stay(r, pointers, Event::Faulted(n)),
-        CallAnswer::Gate => stay(r, pointers, Event::Entering(p)),
+        CallAnswer::Refused(n) => stay(r, Event::Faulted(n)),
+        CallAnswer::Gate => stay(r, Event::Entering(p)),
         CallAnswer::Inside => {
             let stack = stack_of(stacks, r.domain);
-            let based = with_base(pointers, stack);
-            go_to(r, based, p)
+            let base = Pointer {
+                word: 0,
+                segment: stack,
+                tag: false,
+            };
+            go_to(r, p, Event::Pointed(2, base))
         }
     }
 }
@@ -185,17 +170,16 @@ pub fn branch<'a>(
     lengths: &'a [u16; 16],
     rights: &'a [u8; 128],
     r: Registers,
-    pointers: [Pointer; 8],
     taken: bool,
     p: Pointer,
 ) -> Turn
     requires { ⌜ r .word < 65535 ⌝ }
-    ensures { λ t. ⌜ turnAnswer t ≡ (if taken then accept (jumpCheck (now (lengths .entry)) (now (rights .entry)) (r .domain) p) (moved (registersAt r (r .a) (p .segment) (p .word)) pointers) else ok (moved (registersAt r (r .a) (r .segment) (r .word + 1)) pointers)) ⌝ }
+    ensures { λ t. ⌜ Turns t (λ ps. if taken then accept (jumpCheck (now (lengths .entry)) (now (rights .entry)) (r .domain) p) (moved (registersAt r (r .a) (p .segment) (p .word)) ps) else ok (moved (registersAt r (r .a) (r .segment) (r .word + 1)) ps)) ⌝ }
 {
     if taken {
-        jump(lengths, rights, r, pointers, p)
+        jump(lengths, rights, r, p)
     } else {
-        onward(r, pointers, r.a)
+        onward(r, r.a, Event::Moved)
     }
 }
 
@@ -204,14 +188,13 @@ pub fn give_back<'a>(
     lengths: &'a [u16; 16],
     rights: &'a [u8; 128],
     r: Registers,
-    pointers: [Pointer; 8],
     p: Pointer,
 ) -> Turn
-    ensures { λ t. ⌜ turnAnswer t ≡ (if p .tag then ok (leaving p) else accept (jumpCheck (now (lengths .entry)) (now (rights .entry)) (r .domain) p) (moved (registersAt r (r .a) (p .segment) (p .word)) pointers)) ⌝ }
+    ensures { λ t. ⌜ Turns t (λ ps. if p .tag then ok (leaving p) else accept (jumpCheck (now (lengths .entry)) (now (rights .entry)) (r .domain) p) (moved (registersAt r (r .a) (p .segment) (p .word)) ps)) ⌝ }
 {
     if p.tag {
-        stay(r, pointers, Event::Leaving(p))
+        stay(r, Event::Leaving(p))
     } else {
-        jump(lengths, rights, r, pointers, p)
+        jump(lengths, rights, r, p)
     }
 }

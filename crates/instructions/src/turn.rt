@@ -16,7 +16,6 @@ use crate::effects::onward;
 use crate::effects::save;
 use crate::effects::stay;
 use crate::pointers::pointer_at;
-use crate::pointers::with_pointer;
 use state::record::Frame;
 use state::record::Registers;
 use words::instruction::Instruction;
@@ -30,6 +29,8 @@ use words::pointer::pack;
 // Where an instruction came to.
 pub enum Event {
     Moved,
+    // moved on, with pointer register i set
+    Pointed(u8, Pointer),
     Halted,
     Entering(Pointer),
     Leaving(Pointer),
@@ -37,7 +38,6 @@ pub enum Event {
 }
 
 pub struct Turn {
-    pub pointers: [Pointer; 8],
     pub registers: Registers,
     pub event: Event,
 }
@@ -59,59 +59,15 @@ fn effect<'a>(
     p: Pointer,
 ) -> Turn
     requires { ⌜ r .word < 65535 ⌝ }
-    ensures { λ t. ⌜ turnAnswer t ≡ settledAnswer (now (lengths .entry)) (now (rights .entry)) (now (bases .entry)) (now (words .entry)) depth frame r pointers (effectOf (now (lengths .entry)) (now (gates .entry)) (now (rights .entry)) (now (stacks .entry)) depth r pointers (readOf (now (lengths .entry)) (now (rights .entry)) (now (bases .entry)) (now (words .entry)) (r .domain) depth frame) opcode register p) ⌝ }
+    ensures { λ t. ⌜ turnAnswer pointers t ≡ settledAnswer (now (lengths .entry)) (now (rights .entry)) (now (bases .entry)) (now (words .entry)) depth frame r pointers (effectOf (now (lengths .entry)) (now (gates .entry)) (now (rights .entry)) (now (stacks .entry)) depth r pointers (readOf (now (lengths .entry)) (now (rights .entry)) (now (bases .entry)) (now (words .entry)) (r .domain) depth frame) opcode register p) ⌝ }
     ensures { λ t. ⌜ now (words .exit) ≡ settledWords (now (lengths .entry)) (now (rights .entry)) (now (bases .entry)) (now (words .entry)) depth frame r pointers (effectOf (now (lengths .entry)) (now (gates .entry)) (now (rights .entry)) (now (stacks .entry)) depth r pointers (readOf (now (lengths .entry)) (now (rights .entry)) (now (bases .entry)) (now (words .entry)) (r .domain) depth frame) opcode register p) ⌝ }
 {
     match opcode {
-        1 => load(
-            lengths,
-            rights,
-            bases,
-            words,
-            depth,
-            frame,
-            r,
-            pointers,
-            1,
-            p,
-        ),
-        2 => save(
-            lengths,
-            rights,
-            bases,
-            words,
-            depth,
-            frame,
-            r,
-            pointers,
-            p,
-            r.a,
-        ),
-        3 => load(
-            lengths,
-            rights,
-            bases,
-            words,
-            depth,
-            frame,
-            r,
-            pointers,
-            3,
-            p,
-        ),
-        4 => load(
-            lengths,
-            rights,
-            bases,
-            words,
-            depth,
-            frame,
-            r,
-            pointers,
-            4,
-            p,
-        ),
-        5 => onward(r, with_pointer(pointers, register, p), r.a),
+        1 => load(lengths, rights, bases, words, depth, frame, r, 1, p),
+        2 => save(lengths, rights, bases, words, depth, frame, r, p, r.a),
+        3 => load(lengths, rights, bases, words, depth, frame, r, 3, p),
+        4 => load(lengths, rights, bases, words, depth, frame, r, 4, p),
+        5 => onward(r, r.a, Event::Pointed(register, p)),
         6 => save(
             lengths,
             rights,
@@ -120,15 +76,14 @@ fn effect<'a>(
             depth,
             frame,
             r,
-            pointers,
             p,
             pack(pointer_at(pointers, register)),
         ),
-        7 => jump(lengths, rights, r, pointers, p),
-        8 => call(lengths, gates, rights, stacks, depth, r, pointers, p),
-        9 => give_back(lengths, rights, r, pointers, p),
-        10 => branch(lengths, rights, r, pointers, r.a == 0, p),
-        _ => branch(lengths, rights, r, pointers, 2147483648 <= r.a, p),
+        7 => jump(lengths, rights, r, p),
+        8 => call(lengths, gates, rights, stacks, depth, r, p),
+        9 => give_back(lengths, rights, r, p),
+        10 => branch(lengths, rights, r, r.a == 0, p),
+        _ => branch(lengths, rights, r, 2147483648 <= r.a, p),
     }
 }
 
@@ -147,15 +102,15 @@ fn perform<'a>(
     i: Instruction,
 ) -> Turn
     requires { ⌜ r .word < 65535 ⌝ }
-    ensures { λ t. ⌜ turnAnswer t ≡ settledAnswer (now (lengths .entry)) (now (rights .entry)) (now (bases .entry)) (now (words .entry)) depth frame r pointers (executeOf (now (lengths .entry)) (now (gates .entry)) (now (rights .entry)) (now (stacks .entry)) depth r pointers (readOf (now (lengths .entry)) (now (rights .entry)) (now (bases .entry)) (now (words .entry)) (r .domain) depth frame) i) ⌝ }
+    ensures { λ t. ⌜ turnAnswer pointers t ≡ settledAnswer (now (lengths .entry)) (now (rights .entry)) (now (bases .entry)) (now (words .entry)) depth frame r pointers (executeOf (now (lengths .entry)) (now (gates .entry)) (now (rights .entry)) (now (stacks .entry)) depth r pointers (readOf (now (lengths .entry)) (now (rights .entry)) (now (bases .entry)) (now (words .entry)) (r .domain) depth frame) i) ⌝ }
     ensures { λ t. ⌜ now (words .exit) ≡ settledWords (now (lengths .entry)) (now (rights .entry)) (now (bases .entry)) (now (words .entry)) depth frame r pointers (executeOf (now (lengths .entry)) (now (gates .entry)) (now (rights .entry)) (now (stacks .entry)) depth r pointers (readOf (now (lengths .entry)) (now (rights .entry)) (now (bases .entry)) (now (words .entry)) (r .domain) depth frame) i) ⌝ }
 {
     let opcode = i.opcode;
     if opcode == 0 {
-        return stay(r, pointers, Event::Halted);
+        return stay(r, Event::Halted);
     }
     if opcode == 12 {
-        return onward(r, pointers, literal(i.offset));
+        return onward(r, literal(i.offset), Event::Moved);
     }
     match effective(
         lengths,
@@ -168,7 +123,7 @@ fn perform<'a>(
         pointers,
         i,
     ) {
-        PointerAnswer::Refused(n) => stay(r, pointers, Event::Faulted(n)),
+        PointerAnswer::Refused(n) => stay(r, Event::Faulted(n)),
         PointerAnswer::Pointer(p) => effect(
             lengths,
             gates,
@@ -200,13 +155,13 @@ pub fn take_turn<'a>(
     r: Registers,
     pointers: [Pointer; 8],
 ) -> Turn
-    ensures { λ t. ⌜ turnAnswer t ≡ turnOf (now (lengths .entry)) (now (gates .entry)) (now (rights .entry)) (now (stacks .entry)) (now (bases .entry)) (now (words .entry)) depth frame r pointers ⌝ }
+    ensures { λ t. ⌜ turnAnswer pointers t ≡ turnOf (now (lengths .entry)) (now (gates .entry)) (now (rights .entry)) (now (stacks .entry)) (now (bases .entry)) (now (words .entry)) depth frame r pointers ⌝ }
     ensures { λ t. ⌜ now (words .exit) ≡ turnWords (now (lengths .entry)) (now (gates .entry)) (now (rights .entry)) (now (stacks .entry)) (now (bases .entry)) (now (words .entry)) depth frame r pointers ⌝ }
 {
     match fetch(lengths, rights, bases, words, r.domain, r.segment, r.word) {
-        WordAnswer::Refused(n) => stay(r, pointers, Event::Faulted(n)),
+        WordAnswer::Refused(n) => stay(r, Event::Faulted(n)),
         WordAnswer::Word(w) => match decode(w) {
-            InstructionAnswer::Refused(n) => stay(r, pointers, Event::Faulted(n)),
+            InstructionAnswer::Refused(n) => stay(r, Event::Faulted(n)),
             InstructionAnswer::Instruction(i) => perform(
                 lengths,
                 gates,

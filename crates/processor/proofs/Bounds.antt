@@ -28,6 +28,7 @@ use Rattle.processor.proofs.Moving.{turn-length}
 -- an event that ends the moves before the limit, after low instructions at least, and finds a frame free where it enters
 abbrev pub Fine : ℕ → ℕ → ℕ → ℕ → Event → Type 0
 Fine depth low limit n event.Moved = Unit {0}
+Fine depth low limit n (event.Pointed i p) = Unit {0}
 Fine depth low limit n event.Halted = n < limit
 Fine depth low limit n (event.Faulted f) = Unit {0}
 Fine depth low limit n (event.Entering p) = (n < limit) × ((low ≤ n) × (depth < 8))
@@ -35,6 +36,7 @@ Fine depth low limit n (event.Leaving p) = (n < limit) × (low ≤ n)
 
 pub fine-countable : (depth low limit n : ℕ) → limit ≤ 65535 → (e : Event) → Fine depth low limit n e → Countable n e
 fine-countable depth low limit n h event.Moved f = tt
+fine-countable depth low limit n h (event.Pointed i p) f = tt
 fine-countable depth low limit n h event.Halted f = omega (arith, f)
 fine-countable depth low limit n h (event.Faulted k) f = tt
 fine-countable depth low limit n h (event.Entering p) f = omega (arith, f .0)
@@ -110,6 +112,7 @@ after-room low limit n r ps row depth l h i j (ok c) = (i, (j, (omega arith, ome
 module _ (lengths rights bases gatedomains stacks words : List ℕ) (depth : ℕ) (frame : Frame) (r : Registers) (ps : List Pointer) (low limit n : ℕ) (most : depth ≤ 8) where
   pub rest-room : (e : Event) → Fine depth low limit n e → Room low limit (restOf lengths rights bases gatedomains stacks words depth frame r ps n e)
   rest-room event.Moved f = tt
+  rest-room (event.Pointed i p) f = tt
   rest-room event.Halted f = tt
   rest-room (event.Faulted k) f = tt
   rest-room (event.Entering p) f =

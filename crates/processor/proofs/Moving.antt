@@ -14,8 +14,25 @@ use Rattle.instructions.specs.declared.turn.Event.{Event}
 use Rattle.instructions.specs.declared.turn.Event.the-variants as event
 use Rattle.instructions.specs.Reader.{stored, writtenOf}
 use Rattle.instructions.specs.Plan.{Plan, halt, move, store, enter, leave}
-use Rattle.instructions.specs.Turn.{Turned, eventAnswer, settledWords, planned, turnOf, turnWords}
+use Rattle.instructions.specs.Turn.{Turned, moved, eventAnswer, settledWords, planned, turnOf, turnWords}
 use Rattle.processor.specs.Moves.{Paused, paused, onward, movesFrom}
+
+-- an event at which the moves pause
+abbrev pub Stops : Event → Type 0
+Stops event.Moved = ⊥
+Stops (event.Pointed i p) = ⊥
+Stops event.Halted = Unit {0}
+Stops (event.Entering p) = Unit {0}
+Stops (event.Leaving p) = Unit {0}
+Stops (event.Faulted f) = Unit {0}
+
+pub stops : (e : Event) → (e ≡ event.Moved → ⊥) → ((i : ℕ) (p : Pointer) → e ≡ event.Pointed i p → ⊥) → Stops e
+stops event.Moved m o = m refl
+stops (event.Pointed i p) m o = o i p refl
+stops event.Halted m o = tt
+stops (event.Entering p) m o = tt
+stops (event.Leaving p) m o = tt
+stops (event.Faulted f) m o = tt
 
 stored-length : (words : List ℕ) (v : ℕ) (i : Answer ℕ) → length (stored words v i) ≡ length words
 stored-length words v (refuse n) = refl
@@ -65,21 +82,22 @@ module _ (lengths gates rights stacks bases : List ℕ) (depth : ℕ) (frame : F
       next = l .rest ∙ ap (λ (k : ℕ). movesFrom lengths gates rights stacks bases depth frame k n r ps words) (let z : limit - n ≡ suc (limit - (n + 1)) = omega arith in z)
 
       -- an instruction that moves on
-      pub goes : (s : Registers) (qs : List Pointer) (e : Event) (now : List ℕ) → eventAnswer s qs e ≡ turn → e ≡ event.Moved → now ≡ after → Moving limit from r₀ ps₀ words₀ (n + 1) s qs now
-      goes s qs e now h m w =
+      pub goes : (s : Registers) (qs : List Pointer) (now : List ℕ) → turn ≡ ok (moved s qs) → now ≡ after → Moving limit from r₀ ps₀ words₀ (n + 1) s qs now
+      goes s qs now m w =
           record {
             within = omega arith;
             same = ap length w ∙ turn-length words r ps ∙ l .same;
-            rest = next ∙ simp (← h, m) refl ∙ ap (movesFrom lengths gates rights stacks bases depth frame (limit - (n + 1)) (n + 1) s qs) (sym w);
+            rest = next ∙ rw m refl ∙ ap (movesFrom lengths gates rights stacks bases depth frame (limit - (n + 1)) (n + 1) s qs) (sym w);
           }
 
       -- an instruction that does not
-      pub pauses : (s : Registers) (qs : List Pointer) (e : Event) → eventAnswer s qs e ≡ turn → (e ≡ event.Moved → ⊥) → whole ≡ paused r ps after n e
-      pauses s qs e h other = next ∙ ap (onward _ n r ps after) (sym h) ∙ by e other
+      pub pauses : (s : Registers) (e : Event) → eventAnswer s ps e ≡ turn → Stops e → whole ≡ paused r ps after n e
+      pauses s e h stops = next ∙ ap (onward _ n r ps after) (sym h) ∙ by e stops
         where
-          by : (x : Event) → (x ≡ event.Moved → ⊥)
-              → onward (movesFrom lengths gates rights stacks bases depth frame (limit - (n + 1)) (n + 1)) n r ps after (eventAnswer s qs x) ≡ paused r ps after n x
-          by event.Moved o = absurd (o refl)
+          by : (x : Event) → Stops x
+              → onward (movesFrom lengths gates rights stacks bases depth frame (limit - (n + 1)) (n + 1)) n r ps after (eventAnswer s ps x) ≡ paused r ps after n x
+          by event.Moved o = absurd o
+          by (event.Pointed i p) o = absurd o
           by event.Halted o = refl
           by (event.Entering p) o = refl
           by (event.Leaving p) o = refl

@@ -53,6 +53,7 @@ restAnswer c = restBy c (c .end)
 -- what may be counted after n instructions: one that is completed has a number of 16 bits
 abbrev pub Countable : ℕ → Event → Type 0
 Countable n event.Moved = Unit {0}
+Countable n (event.Pointed i p) = Unit {0}
 Countable n event.Halted = n < 65535
 Countable n (event.Faulted f) = Unit {0}
 Countable n (event.Entering p) = n < 65535
@@ -63,9 +64,10 @@ abbrev pub restAfter : Registers → List Pointer → ℕ → ℕ → ℕ → An
 restAfter r pointers n row depth (refuse f) = ends r pointers n (faulted f)
 restAfter r pointers n row depth (ok changes) = goes (n + 1) row depth changes
 
--- after n instructions and moves that pause at an event
+-- after n instructions and moves that pause at an event; where that is no pause, the limit is reached
 abbrev pub restOf : List ℕ → List ℕ → List ℕ → List ℕ → List ℕ → List ℕ → ℕ → Frame → Registers → List Pointer → ℕ → Event → Rest
 restOf lengths rights bases gatedomains stacks words depth frame r pointers n event.Moved = ends r pointers n spent
+restOf lengths rights bases gatedomains stacks words depth frame r pointers n (event.Pointed i p) = ends r pointers n spent
 restOf lengths rights bases gatedomains stacks words depth frame r pointers n event.Halted = ends r pointers (n + 1) halted
 restOf lengths rights bases gatedomains stacks words depth frame r pointers n (event.Faulted f) = ends r pointers n (faulted f)
 restOf lengths rights bases gatedomains stacks words depth frame r pointers n (event.Entering p) =

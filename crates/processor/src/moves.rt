@@ -2,6 +2,7 @@
 ghost use mathlib.Core.Path.{_≡_};
 ghost use Prim.Native.Nat.{_≤_, _-_};
 ghost use Rattle.processor.specs.Moves.{movesFrom};
+use instructions::pointers::with_pointer;
 use instructions::turn::Event;
 use instructions::turn::take_turn;
 use state::record::Frame;
@@ -55,7 +56,12 @@ pub fn make_moves<'a>(
         match event {
             Event::Moved => {
                 registers = t.registers;
-                pointers = t.pointers;
+                n += 1;
+            }
+            Event::Pointed(i, p) => {
+                registers = t.registers;
+                let pointed = with_pointer(pointers, i, p);
+                pointers = pointed;
                 n += 1;
             }
             other => {

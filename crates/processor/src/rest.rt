@@ -128,6 +128,7 @@ pub fn rest<'a>(
             crossed_rest(c, r, pointers, n, less, less)
         }
         Event::Moved => stop(frame, r, pointers, n, depth, End::Spent),
+        Event::Pointed(i, p) => stop(frame, r, pointers, n, depth, End::Spent),
         Event::Halted => stop(frame, r, pointers, n + 1, depth, End::Halted),
         Event::Faulted(number) => stop(frame, r, pointers, n, depth, End::Faulted(number)),
     }

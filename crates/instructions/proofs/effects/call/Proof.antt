@@ -26,27 +26,24 @@ enum-told-2 c = search needs
 stack-of-requires : tie.Need-stack-of-requires
 stack-of-requires c κs = search needs
 
-with-base-requires : tie.Need-with-base-requires
-with-base-requires c κs = search needs
-
 go-to-requires : tie.Need-go-to-requires
 go-to-requires c κs = search needs
 
 returns : tie.Need-returns
-returns c =
+returns c ps =
     let k = c .before .before in
-    ap turnAnswer (c .stay .ensures) ∙ simp (← k .before .before .call-way .ensures, k .n .given .1)
+    ap (turnAnswer ps) (c .stay .ensures) ∙ simp (← k .before .before .call-way .ensures, k .n .given .1)
 
 returns-2 : tie.Need-returns-2
-returns-2 c =
+returns-2 c ps =
     let k = c .before in
-    ap turnAnswer (c .stay2 .ensures) ∙ simp (← k .before .before .call-way .ensures, k .enum-told .given .1)
+    ap (turnAnswer ps) (c .stay2 .ensures) ∙ simp (← k .before .before .call-way .ensures, k .enum-told .given .1)
 
 returns-3 : tie.Need-returns-3
-returns-3 c =
+returns-3 c ps =
     let b = c .before in
-    let k = b .before .before in
-    c .go-to .ensures ∙ simp (← k .before .before .call-way .ensures, k .enum-told2 .given .1, b .with-base .ensures, b .before .stack-of .ensures)
+    let k = b .before in
+    ap (turnAnswer ps) (c .go-to .ensures) ∙ simp (← k .before .before .call-way .ensures, k .enum-told2 .given .1, b .stack-of .ensures)
 
 pub call-spec : {M : Type 1} → statement M
 call-spec =
@@ -59,7 +56,6 @@ call-spec =
     stay-requires-2
     enum-told-2
     stack-of-requires
-    with-base-requires
     go-to-requires
     returns
     returns-2

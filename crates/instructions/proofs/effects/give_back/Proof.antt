@@ -12,10 +12,10 @@ jump-requires : tie.Need-jump-requires
 jump-requires c κs = search needs
 
 returns : tie.Need-returns
-returns c = simp (c .before .if1 .taken) (ap turnAnswer (c .stay .ensures))
+returns c ps = simp (c .before .if1 .taken) (ap (turnAnswer ps) (c .stay .ensures))
 
 returns-2 : tie.Need-returns-2
-returns-2 c = simp (c .before .if1 .left) (c .jump .ensures)
+returns-2 c ps = simp (c .before .if1 .left) (c .jump .ensures ps)
 
 pub give-back-spec : {M : Type 1} → statement M
 give-back-spec = tie.close (tie.spec stay-requires jump-requires returns returns-2)

@@ -24,15 +24,15 @@ onward-requires : tie.Need-onward-requires
 onward-requires c κs = search needs
 
 returns : tie.Need-returns
-returns c =
+returns c ps =
     let k = c .before .before in
-    ap turnAnswer (c .stay .ensures) ∙ simp (← k .before .before .read .ensures, k .n .given .1)
+    ap (turnAnswer ps) (c .stay .ensures) ∙ simp (← k .before .before .read .ensures, k .n .given .1)
 
 returns-2 : tie.Need-returns-2
-returns-2 c =
+returns-2 c ps =
     let o = c .before in
     let k = o .before .before in
-    c .onward .ensures ∙ simp (← k .before .before .read .ensures, k .w .given .1, o .operate .ensures)
+    ap (turnAnswer ps) (c .onward .ensures) ∙ simp (← k .before .before .read .ensures, k .w .given .1, o .operate .ensures)
 
 pub load-spec : {M : Type 1} → statement M
 load-spec =

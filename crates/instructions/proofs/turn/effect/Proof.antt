@@ -6,6 +6,7 @@ use borrow.Author.Tests.{ne-eqb}
 use lib.Dec.{eqb, leb}
 use Rattle.instructions.specs.Reader.{readOf}
 use Rattle.instructions.specs.Instruction.{effectOf}
+use Rattle.instructions.specs.Turn.{turnAnswer}
 use Rattle.instructions.proofs.Turns.{load-settles, jump-settles, call-settles, return-settles, branch-settles}
 use Rattle.instructions.proofs.turn.effect.Statement.{statement}
 use Rattle.instructions.proofs.turn.effect.Tie as tie
@@ -21,9 +22,6 @@ load-requires-2 c κs = search needs
 
 load-requires-3 : tie.Need-load-requires-3
 load-requires-3 c κs = search needs
-
-with-pointer-requires : tie.Need-with-pointer-requires
-with-pointer-requires c κs = search needs
 
 onward-requires : tie.Need-onward-requires
 onward-requires c κs = search needs
@@ -61,7 +59,7 @@ returns c =
     let m = c .before .before in
     let a = m .before .before .args in
     let s = load-settles (a .lengths .now) (a .gates .now) (a .rights .now) (a .stacks .now) (a .bases .now) (a .words .now) (a .depth) (a .frame) (a .r) (a .pointers) (readOf (a .lengths .now) (a .rights .now) (a .bases .now) (a .words .now) (a .r .domain) (a .depth) (a .frame)) 1 (a .p) in
-    rw (m .match .keys1) (c .load .ensures ∙ sym (s .there), sym (s .words-stay))
+    rw (m .match .keys1) (c .load .ensures (a .pointers) ∙ sym (s .there), sym (s .words-stay))
 
 same-length-2 : tie.Need-same-length-2
 same-length-2 c = search needs
@@ -70,7 +68,7 @@ returns-2 : tie.Need-returns-2
 unfolding effectOf
 returns-2 c =
     let m = c .before .before .before .before in
-    rw (m .match .keys2) (c .before .before .save .ensures .0, c .before .before .save .ensures .1)
+    rw (m .match .keys2) (c .before .before .save .ensures .0 (m .before .before .args .pointers), c .before .before .save .ensures .1)
 
 same-length-3 : tie.Need-same-length-3
 same-length-3 c = search needs
@@ -81,7 +79,7 @@ returns-3 c =
     let m = c .before .before in
     let a = m .before .before .args in
     let s = load-settles (a .lengths .now) (a .gates .now) (a .rights .now) (a .stacks .now) (a .bases .now) (a .words .now) (a .depth) (a .frame) (a .r) (a .pointers) (readOf (a .lengths .now) (a .rights .now) (a .bases .now) (a .words .now) (a .r .domain) (a .depth) (a .frame)) 3 (a .p) in
-    rw (m .match .keys3) (c .load2 .ensures ∙ sym (s .there), sym (s .words-stay))
+    rw (m .match .keys3) (c .load2 .ensures (a .pointers) ∙ sym (s .there), sym (s .words-stay))
 
 same-length-4 : tie.Need-same-length-4
 same-length-4 c = search needs
@@ -92,13 +90,13 @@ returns-4 c =
     let m = c .before .before in
     let a = m .before .before .args in
     let s = load-settles (a .lengths .now) (a .gates .now) (a .rights .now) (a .stacks .now) (a .bases .now) (a .words .now) (a .depth) (a .frame) (a .r) (a .pointers) (readOf (a .lengths .now) (a .rights .now) (a .bases .now) (a .words .now) (a .r .domain) (a .depth) (a .frame)) 4 (a .p) in
-    rw (m .match .keys4) (c .load3 .ensures ∙ sym (s .there), sym (s .words-stay))
+    rw (m .match .keys4) (c .load3 .ensures (a .pointers) ∙ sym (s .there), sym (s .words-stay))
 
 returns-5 : tie.Need-returns-5
 unfolding effectOf
 returns-5 c =
-    let m = c .before .before in
-    rw (m .match .keys5) ((rw (c .before .with-pointer .ensures) at (c .onward .ensures)), refl)
+    let m = c .before in
+    rw (m .match .keys5) (ap (turnAnswer (m .before .before .args .pointers)) (c .onward .ensures), refl)
 
 same-length-5 : tie.Need-same-length-5
 same-length-5 c = search needs
@@ -110,7 +108,7 @@ returns-6 c =
     let k = v .before in
     let m = k .before .before .before in
     let e = rw (k .pack .ensures, k .before .pointer-at .ensures) at (v .save2 .ensures) in
-    rw (m .match .keys6) (e .0, e .1)
+    rw (m .match .keys6) (e .0 (m .before .before .args .pointers), e .1)
 
 returns-7 : tie.Need-returns-7
 unfolding effectOf
@@ -118,7 +116,7 @@ returns-7 c =
     let m = c .before in
     let a = m .before .before .args in
     let s = jump-settles (a .lengths .now) (a .gates .now) (a .rights .now) (a .stacks .now) (a .bases .now) (a .words .now) (a .depth) (a .frame) (a .r) (a .pointers) (a .p) in
-    rw (m .match .keys7) (c .jump .ensures ∙ sym (s .there), sym (s .words-stay))
+    rw (m .match .keys7) (c .jump .ensures (a .pointers) ∙ sym (s .there), sym (s .words-stay))
 
 returns-8 : tie.Need-returns-8
 unfolding effectOf
@@ -126,7 +124,7 @@ returns-8 c =
     let m = c .before in
     let a = m .before .before .args in
     let s = call-settles (a .lengths .now) (a .gates .now) (a .rights .now) (a .stacks .now) (a .bases .now) (a .words .now) (a .depth) (a .frame) (a .r) (a .pointers) (a .p) in
-    rw (m .match .keys8) (c .call .ensures ∙ sym (s .there), sym (s .words-stay))
+    rw (m .match .keys8) (c .call .ensures (a .pointers) ∙ sym (s .there), sym (s .words-stay))
 
 returns-9 : tie.Need-returns-9
 unfolding effectOf
@@ -134,7 +132,7 @@ returns-9 c =
     let m = c .before in
     let a = m .before .before .args in
     let s = return-settles (a .lengths .now) (a .gates .now) (a .rights .now) (a .stacks .now) (a .bases .now) (a .words .now) (a .depth) (a .frame) (a .r) (a .pointers) (a .p) in
-    rw (m .match .keys9) (c .give-back .ensures ∙ sym (s .there), sym (s .words-stay))
+    rw (m .match .keys9) (c .give-back .ensures (a .pointers) ∙ sym (s .there), sym (s .words-stay))
 
 returns-10 : tie.Need-returns-10
 unfolding effectOf
@@ -142,7 +140,7 @@ returns-10 c =
     let m = c .before .before in
     let a = m .before .before .args in
     let s = branch-settles (a .lengths .now) (a .gates .now) (a .rights .now) (a .stacks .now) (a .bases .now) (a .words .now) (a .depth) (a .frame) (a .r) (a .pointers) (eqb (a .r .a) 0) (a .p) in
-    rw (m .match .keys10) (c .branch .ensures ∙ sym (s .there), sym (s .words-stay))
+    rw (m .match .keys10) (c .branch .ensures (a .pointers) ∙ sym (s .there), sym (s .words-stay))
 
 returns-11 : tie.Need-returns-11
 unfolding effectOf
@@ -152,7 +150,7 @@ returns-11 c =
     let s = branch-settles (a .lengths .now) (a .gates .now) (a .rights .now) (a .stacks .now) (a .bases .now) (a .words .now) (a .depth) (a .frame) (a .r) (a .pointers) (leb (2 ^ 31) (a .r .a)) (a .p) in
     let n = m .match .rest in
     simp (ne-eqb _ _ (n .0 .0 .0 .0 .0 .0 .0 .0 .0 .1), ne-eqb _ _ (n .0 .0 .0 .0 .0 .0 .0 .0 .1), ne-eqb _ _ (n .0 .0 .0 .0 .0 .0 .0 .1), ne-eqb _ _ (n .0 .0 .0 .0 .0 .0 .1), ne-eqb _ _ (n .0 .0 .0 .0 .0 .1), ne-eqb _ _ (n .0 .0 .0 .0 .1), ne-eqb _ _ (n .0 .0 .0 .1), ne-eqb _ _ (n .0 .0 .1), ne-eqb _ _ (n .0 .1), ne-eqb _ _ (n .1))
-    (c .branch2 .ensures ∙ sym (s .there), sym (s .words-stay))
+    (c .branch2 .ensures (a .pointers) ∙ sym (s .there), sym (s .words-stay))
 
 pub effect-spec : {M : Type 1} → statement M
 effect-spec =
@@ -162,7 +160,6 @@ effect-spec =
     save-requires
     load-requires-2
     load-requires-3
-    with-pointer-requires
     onward-requires
     pointer-at-requires
     pack-requires

@@ -16,7 +16,7 @@ stay-requires c κs = search needs
 
 returns : tie.Need-returns
 unfolding executeOf
-returns c = let i = c .before in simp (eq-eqb _ _ (i .if1 .taken)) (ap turnAnswer (c .stay .ensures), refl)
+returns c = let i = c .before in simp (eq-eqb _ _ (i .if1 .taken)) (ap (turnAnswer _) (c .stay .ensures), refl)
 
 literal-requires : tie.Need-literal-requires
 literal-requires c κs = search needs
@@ -33,7 +33,7 @@ unfolding executeOf
 returns-2 c =
     let l = c .before in
     let i = l .before .before in
-    simp (ne-eqb _ _ (i .before .if1 .left), eq-eqb _ _ (i .if2 .taken)) ((rw (told l) at (c .onward .ensures)), refl)
+    simp (ne-eqb _ _ (i .before .if1 .left), eq-eqb _ _ (i .if2 .taken)) (ap (turnAnswer _) (rw (told l) at (c .onward .ensures)), refl)
 
 effective-requires : tie.Need-effective-requires
 effective-requires c κs = search needs
@@ -59,7 +59,7 @@ returns-3 c =
     let k = c .before .before in
     let e = k .before .before in
     let i = e .before .before in
-    simp (ne-eqb _ _ (i .before .if1 .left), ne-eqb _ _ (i .if2 .left), ← e .effective .ensures, k .n .given .1) (ap turnAnswer (c .stay2 .ensures), refl)
+    simp (ne-eqb _ _ (i .before .if1 .left), ne-eqb _ _ (i .if2 .left), ← e .effective .ensures, k .n .given .1) (ap (turnAnswer _) (c .stay2 .ensures), refl)
 
 same-length-2 : tie.Need-same-length-2
 same-length-2 c = search needs

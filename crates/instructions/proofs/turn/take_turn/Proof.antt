@@ -43,7 +43,7 @@ returns : tie.Need-returns
 unfolding turnOf turnWords planOf
 returns c =
     let k = c .before .before in
-    simp (← k .before .before .fetch .ensures .0, k .n .given .1) (ap turnAnswer (c .stay .ensures), refl)
+    simp (← k .before .before .fetch .ensures .0, k .n .given .1) (ap (turnAnswer _) (c .stay .ensures), refl)
 
 same-length-2 : tie.Need-same-length-2
 same-length-2 c = search needs
@@ -54,7 +54,7 @@ returns-2 c =
     let k = c .before .before in
     let d = k .before .before in
     let w = d .before .before in
-    simp (← w .before .before .fetch .ensures .0, w .w .given .1, ← d .decode .ensures, k .n2 .given .1) (ap turnAnswer (c .stay2 .ensures), refl)
+    simp (← w .before .before .fetch .ensures .0, w .w .given .1, ← d .decode .ensures, k .n2 .given .1) (ap (turnAnswer _) (c .stay2 .ensures), refl)
 
 same-length-3 : tie.Need-same-length-3
 same-length-3 c = search needs

@@ -1,5 +1,5 @@
 -- `processor::moves::make_moves` meets its contract.
-use Prim.Native.Nat.{ℕ, _-_}
+use Prim.Native.Nat.{ℕ, _-_, _≤_}
 use native.Mathlib.Omega.{arith}
 use mathlib.Core.Path.{_≡_, refl, sym, ap, _∙_}
 use mathlib.Core.Logic.{⊎-elim}
@@ -7,9 +7,12 @@ use mathlib.Core.List.{List, [], _∷_}
 use borrow.Author.Needs.{needs}
 use types.Run.{OneOf}
 use lib.ListN.{length}
+use Rattle.words.specs.Answer.{ok}
+use Rattle.words.specs.declared.pointer.Pointer.{Pointer}
 use Rattle.instructions.specs.declared.turn.Event.the-variants as event
+use Rattle.instructions.specs.Turn.{moved, eventAnswer}
 use Rattle.processor.specs.Moves.{Paused}
-use Rattle.processor.proofs.Moving.{Moving, starts, spent, goes, pauses, turn-length}
+use Rattle.processor.proofs.Moving.{Moving, starts, spent, goes, pauses, stops, turn-length}
 use Rattle.processor.proofs.moves.make_moves.Statement.{statement}
 use Rattle.processor.proofs.moves.make_moves.Tie as tie
 
@@ -20,9 +23,9 @@ Inv-loop lengths gates rights stacks bases words₀ depth frame from limit regis
 abbrev μ-loop : tie.MeasureT-loop
 μ-loop lengths gates rights stacks bases words₀ depth frame from limit registers₀ pointers₀ n₀ words registers pointers n = limit - n
 
--- the default arm is not that of Moved
-another : OneOf (1 ∷ 2 ∷ 3 ∷ 4 ∷ []) 0 → ⊥
-another k = ⊎-elim (λ e. omega (arith, e)) (⊎-elim (λ e. omega (arith, e)) (⊎-elim (λ e. omega (arith, e)) (λ e. omega (arith, e)))) k
+-- the default arm is neither that of Moved nor that of Pointed
+another : (k : ℕ) → k ≤ 1 → OneOf (2 ∷ 3 ∷ 4 ∷ 5 ∷ []) k → ⊥
+another k h o = ⊎-elim (λ e. omega (arith, e)) (⊎-elim (λ e. omega (arith, e)) (⊎-elim (λ e. omega (arith, e)) (λ e. omega (arith, e)))) o
 
 loop-holds : tie.Need-loop-holds Inv-loop μ-loop
 loop-holds c = starts _ _ _ _ _ _ _ _ _ _ _ _ (c .before .pre)
@@ -34,16 +37,34 @@ enum-told : tie.Need-enum-told Inv-loop μ-loop
 enum-told c = search needs
 
 add-n : tie.Need-add-n Inv-loop μ-loop
-add-n c = omega (arith, c .before .before .before .before .before .before .before .before .loop-test .taken, c .before .before .before .before .before .before .before .before .before .before .before .fits .limit)
+add-n c = omega (arith, c .before .before .before .before .before .before .before .loop-test .taken, c .before .before .before .before .before .before .before .before .before .before .fits .limit)
 
 loop-less : tie.Need-loop-less Inv-loop μ-loop
-loop-less c = omega (arith, c .before .before .before .before .before .before .before .before .loop-test .taken)
+loop-less c = omega (arith, c .before .before .before .before .before .before .before .loop-test .taken)
 
 loop-again : tie.Need-loop-again Inv-loop μ-loop
 loop-again c =
-    let t = c .before .before .before .before .before .before in
+    let t = c .before .before .before .before .before in
     let l = t .before .before in
-    goes _ _ _ _ _ _ _ _ _ _ _ _ _ _ _ _ (l .before .loop .inv) (l .loop-test .taken) _ _ _ _ (t .take-turn .ensures .0) (c .before .before .enum-told .given .1) (t .take-turn .ensures .1)
+    goes _ _ _ _ _ _ _ _ _ _ _ _ _ _ _ _ (l .before .loop .inv) (l .loop-test .taken) _ _ _ (sym (t .take-turn .ensures .0) ∙ ap (eventAnswer _ _) (c .before .enum-told .given .1)) (t .take-turn .ensures .1)
+
+enum-known-event : tie.Need-enum-known-event Inv-loop μ-loop
+enum-known-event c = search needs
+
+with-pointer-requires : tie.Need-with-pointer-requires Inv-loop μ-loop
+with-pointer-requires c κs = tt
+
+add-n-2 : tie.Need-add-n-2 Inv-loop μ-loop
+add-n-2 c = omega (arith, c .before .before .before .before .before .before .before .before .before .loop-test .taken, c .before .before .before .before .before .before .before .before .before .before .before .before .fits .limit)
+
+loop-less-2 : tie.Need-loop-less-2 Inv-loop μ-loop
+loop-less-2 c = omega (arith, c .before .before .before .before .before .before .before .before .before .loop-test .taken)
+
+loop-again-2 : tie.Need-loop-again-2 Inv-loop μ-loop
+loop-again-2 c =
+    let t = c .before .before .before .before .before .before .before in
+    let l = t .before .before in
+    goes _ _ _ _ _ _ _ _ _ _ _ _ _ _ _ _ (l .before .loop .inv) (l .loop-test .taken) _ _ _ (sym (t .take-turn .ensures .0) ∙ ap (eventAnswer _ _) (c .before .before .before .event .given .1) ∙ ap (λ (ps : List Pointer). ok (moved (t .take-turn .result .registers) ps)) (sym (c .with-pointer .ensures))) (t .take-turn .ensures .1)
 
 same-length : tie.Need-same-length Inv-loop μ-loop
 same-length c =
@@ -55,8 +76,10 @@ returns : tie.Need-returns Inv-loop μ-loop
 returns c =
     let t = c .before .before .before in
     let l = t .before .before in
-    let e = pauses _ _ _ _ _ _ _ _ _ _ _ _ _ _ _ _ (l .before .loop .inv) (l .loop-test .taken) _ _ (t .take-turn .result .event) (t .take-turn .ensures .0) (λ m. another (rw m at (c .match .keys2))) in
-    (sym (ap (λ (x : Paused). x .pause) e), t .take-turn .ensures .1 ∙ sym (ap (λ (x : Paused). x .words) e))
+    let x = t .take-turn .result .event in
+    let s = stops x (λ m. another 0 (omega arith) (rw m at (c .match .keys3))) (λ i p m. another 1 (omega arith) (rw m at (c .match .keys3))) in
+    let e = pauses _ _ _ _ _ _ _ _ _ _ _ _ _ _ _ _ (l .before .loop .inv) (l .loop-test .taken) _ x (t .take-turn .ensures .0) s in
+    (sym (ap (λ (q : Paused). q .pause) e), t .take-turn .ensures .1 ∙ sym (ap (λ (q : Paused). q .words) e))
 
 same-length-2 : tie.Need-same-length-2 Inv-loop μ-loop
 same-length-2 c = c .before .loop .inv .same
@@ -76,6 +99,11 @@ make-moves-spec =
     add-n
     loop-less
     loop-again
+    enum-known-event
+    with-pointer-requires
+    add-n-2
+    loop-less-2
+    loop-again-2
     same-length
     returns
     same-length-2

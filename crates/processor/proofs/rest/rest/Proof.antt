@@ -66,6 +66,12 @@ enum-known-event-3 c = search needs
 stop-requires-3 : tie.Need-stop-requires-3
 stop-requires-3 c κs = search needs
 
+enum-known-event-4 : tie.Need-enum-known-event-4
+enum-known-event-4 c = search needs
+
+stop-requires-4 : tie.Need-stop-requires-4
+stop-requires-4 c κs = search needs
+
 returns : tie.Need-returns
 returns c =
     let e = c .before in
@@ -81,10 +87,13 @@ returns-3 : tie.Need-returns-3
 returns-3 c = ap restAnswer (c .stop .ensures) ∙ told _ _ _ _ _ _ _ _ _ _ _ (c .before .enum-told .given .1)
 
 returns-4 : tie.Need-returns-4
-returns-4 c = ap restAnswer (c .stop2 .ensures) ∙ told _ _ _ _ _ _ _ _ _ _ _ (c .before .enum-told2 .given .1)
+returns-4 c = ap restAnswer (c .stop2 .ensures) ∙ told _ _ _ _ _ _ _ _ _ _ _ (c .before .before .event3 .given .1)
 
 returns-5 : tie.Need-returns-5
-returns-5 c = ap restAnswer (c .stop3 .ensures) ∙ told _ _ _ _ _ _ _ _ _ _ _ (c .before .before .event3 .given .1)
+returns-5 c = ap restAnswer (c .stop3 .ensures) ∙ told _ _ _ _ _ _ _ _ _ _ _ (c .before .enum-told2 .given .1)
+
+returns-6 : tie.Need-returns-6
+returns-6 c = ap restAnswer (c .stop4 .ensures) ∙ told _ _ _ _ _ _ _ _ _ _ _ (c .before .before .event4 .given .1)
 
 pub rest-spec : {M : Type 1} → statement M
 rest-spec =
@@ -100,13 +109,16 @@ rest-spec =
     crossed-rest-requires-2
     enum-told
     stop-requires
+    enum-known-event-3
+    stop-requires-2
     enum-told-2
     add-stop
-    stop-requires-2
-    enum-known-event-3
     stop-requires-3
+    enum-known-event-4
+    stop-requires-4
     returns
     returns-2
     returns-3
     returns-4
-    returns-5)
+    returns-5
+    returns-6)
