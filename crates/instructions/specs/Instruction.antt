@@ -1,6 +1,6 @@
 -- The thirteen instructions.
 use Prim.Native.Nat.{ℕ, zero, suc, _+_, _^_}
-use mathlib.Core.Bool.{Bool, true, false, not}
+use mathlib.Core.Bool.{Bool, true, false, not, _||_}
 use mathlib.Core.List.{List}
 use lib.Dec.{eqb, ltb, leb}
 use lib.ListN.{getD, set}
@@ -67,6 +67,21 @@ LIT = 12
 -- what LOAD, ADD and SUB make of A and the word there
 abbrev pub operateOf : ℕ → ℕ → ℕ → ℕ
 operateOf opcode a w = if eqb opcode LOAD then w else (if eqb opcode ADD then sumOf a w else differenceOf a w)
+
+-- the opcodes that read into A, and those that store
+unfoldable pub isLoad : ℕ → Bool
+isLoad opcode = eqb opcode LOAD || (eqb opcode ADD || eqb opcode SUB)
+
+unfoldable pub isStore : ℕ → Bool
+isStore opcode = eqb opcode STORE || eqb opcode SPP
+
+-- the word that STORE stores, or SPP
+unfoldable pub valueOf : ℕ → ℕ → List Pointer → ℕ → ℕ
+valueOf opcode a pointers register = if eqb opcode STORE then a else pointerWord (getD pointers register noPointer)
+
+-- whether JZ jumps, or JM
+unfoldable pub takenOf : ℕ → ℕ → Bool
+takenOf opcode a = if eqb opcode JZ then eqb a 0 else leb (2 ^ 31) a
 
 -- pointer register b at word 0 of a stack segment
 abbrev pub withBase : List Pointer → ℕ → List Pointer
@@ -135,17 +150,13 @@ module _ (lengths gates rights stacks : List ℕ) (depth : ℕ) (r : Registers) 
   -- the effect of an opcode at an effective pointer
   unfoldable pub effectOf : Reader → ℕ → ℕ → Pointer → Answer Plan
   effectOf read opcode register p =
-      if eqb opcode LOAD then loadOf read opcode p else (
-      if eqb opcode STORE then ok (store p (r .a)) else (
-      if eqb opcode ADD then loadOf read opcode p else (
-      if eqb opcode SUB then loadOf read opcode p else (
+      if isLoad opcode then loadOf read opcode p else (
+      if isStore opcode then ok (store p (valueOf opcode (r .a) pointers register)) else (
       if eqb opcode EPP then ok (move (r .a) (r .segment) (r .word + 1) (set pointers register p)) else (
-      if eqb opcode SPP then ok (store p (pointerWord (getD pointers register noPointer))) else (
       if eqb opcode JUMP then jumpOf p else (
       if eqb opcode CALL then callOf p else (
-      if eqb opcode RET then returnOf p else (
-      if eqb opcode JZ then branchOf (eqb (r .a) 0) p else
-      branchOf (leb (2 ^ 31) (r .a)) p)))))))))
+      if eqb opcode RET then returnOf p else
+      branchOf (takenOf opcode (r .a)) p)))))
 
   -- HALT and LIT form no effective pointer
   unfoldable pub executeOf : Reader → Instruction → Answer Plan

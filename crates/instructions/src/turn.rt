@@ -2,7 +2,7 @@
 ghost use mathlib.Core.Path.{_≡_};
 ghost use Prim.Native.Nat.{_<_};
 ghost use Rattle.instructions.specs.Reader.{readOf};
-ghost use Rattle.instructions.specs.Instruction.{effectOf, executeOf};
+ghost use Rattle.instructions.specs.Instruction.{isLoad, isStore, valueOf, takenOf, effectOf, executeOf};
 ghost use Rattle.instructions.specs.Turn.{turnAnswer, turnOf, turnWords, settledAnswer, settledWords};
 use crate::access::WordAnswer;
 use crate::access::fetch;
@@ -42,6 +42,48 @@ pub struct Turn {
     pub event: Event,
 }
 
+// The opcodes that read into A, and those that store.
+fn is_load(opcode: u8) -> bool
+    ensures { λ t. ⌜ t ≡ isLoad opcode ⌝ }
+{
+    if opcode == 1 {
+        return true;
+    }
+    if opcode == 3 {
+        return true;
+    }
+    opcode == 4
+}
+
+fn is_store(opcode: u8) -> bool
+    ensures { λ t. ⌜ t ≡ isStore opcode ⌝ }
+{
+    if opcode == 2 {
+        return true;
+    }
+    opcode == 6
+}
+
+// The word that STORE or SPP stores.
+fn value(opcode: u8, a: u32, pointers: [Pointer; 8], register: u8) -> u32
+    ensures { λ v. ⌜ v ≡ valueOf opcode a pointers register ⌝ }
+{
+    if opcode == 2 {
+        return a;
+    }
+    pack(pointer_at(pointers, register))
+}
+
+// Whether JZ or JM jumps.
+fn taken(opcode: u8, a: u32) -> bool
+    ensures { λ t. ⌜ t ≡ takenOf opcode a ⌝ }
+{
+    if opcode == 10 {
+        return a == 0;
+    }
+    2147483648 <= a
+}
+
 // The effect of an opcode at an effective pointer.
 fn effect<'a>(
     lengths: &'a [u16; 16],
@@ -62,28 +104,19 @@ fn effect<'a>(
     ensures { λ t. ⌜ turnAnswer pointers t ≡ settledAnswer (now (lengths .entry)) (now (rights .entry)) (now (bases .entry)) (now (words .entry)) depth frame r pointers (effectOf (now (lengths .entry)) (now (gates .entry)) (now (rights .entry)) (now (stacks .entry)) depth r pointers (readOf (now (lengths .entry)) (now (rights .entry)) (now (bases .entry)) (now (words .entry)) (r .domain) depth frame) opcode register p) ⌝ }
     ensures { λ t. ⌜ now (words .exit) ≡ settledWords (now (lengths .entry)) (now (rights .entry)) (now (bases .entry)) (now (words .entry)) depth frame r pointers (effectOf (now (lengths .entry)) (now (gates .entry)) (now (rights .entry)) (now (stacks .entry)) depth r pointers (readOf (now (lengths .entry)) (now (rights .entry)) (now (bases .entry)) (now (words .entry)) (r .domain) depth frame) opcode register p) ⌝ }
 {
+    if is_load(opcode) {
+        return load(lengths, rights, bases, words, depth, frame, r, opcode, p);
+    }
+    if is_store(opcode) {
+        let v = value(opcode, r.a, pointers, register);
+        return save(lengths, rights, bases, words, depth, frame, r, p, v);
+    }
     match opcode {
-        1 => load(lengths, rights, bases, words, depth, frame, r, 1, p),
-        2 => save(lengths, rights, bases, words, depth, frame, r, p, r.a),
-        3 => load(lengths, rights, bases, words, depth, frame, r, 3, p),
-        4 => load(lengths, rights, bases, words, depth, frame, r, 4, p),
         5 => onward(r, r.a, Event::Pointed(register, p)),
-        6 => save(
-            lengths,
-            rights,
-            bases,
-            words,
-            depth,
-            frame,
-            r,
-            p,
-            pack(pointer_at(pointers, register)),
-        ),
         7 => jump(lengths, rights, r, p),
         8 => call(lengths, gates, rights, stacks, depth, r, p),
         9 => give_back(lengths, rights, r, p),
-        10 => branch(lengths, rights, r, r.a == 0, p),
-        _ => branch(lengths, rights, r, 2147483648 <= r.a, p),
+        _ => branch(lengths, rights, r, taken(opcode, r.a), p),
     }
 }
 

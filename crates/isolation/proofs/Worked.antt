@@ -24,7 +24,7 @@ use Rattle.machine.specs.Reference.{verdictOf, locateOf, referenceOf}
 use Rattle.machine.specs.Machine.{check}
 use Rattle.instructions.specs.Reader.{readOf, fetchOf, readWord, fetch}
 use Rattle.instructions.specs.Effective.{displacedBy, throughOf, effectiveOf}
-use Rattle.instructions.specs.Instruction.{jumpCheck, callWay, loadOf, branchOf, callOf, effectOf, executeOf, planOf, jumpOf, returnOf}
+use Rattle.instructions.specs.Instruction.{jumpCheck, callWay, loadOf, branchOf, callOf, isLoad, isStore, valueOf, takenOf, effectOf, executeOf, planOf, jumpOf, returnOf}
 use Rattle.crossings.specs.ArgumentList.{listWord, listPointer, sourceOf, capabilityOf, argumentOf, argumentsFrom, frameAfter, frameOf}
 use Rattle.crossings.specs.Crossing.{freeFrame, entered, enterOf}
 use Rattle.processor.specs.Step.{decide, commit, execute}
@@ -104,7 +104,7 @@ pub record Computed (hidden : ℕ) (rest : List ℕ) : Type 0 where
   pub written : wordAt start (set (memory 5 hidden rest) (place start 1 6) 5) 1 6 ≡ 5
 
 pub computed : (hidden : ℕ) (rest : List ℕ) → Computed hidden rest
-unfolding field common signedOf displacedOf literalOf pointerOf instructionOf modeOf baseOf basesOf has exists rightsOf staticOf coversOf firstOf liveMatch liveOf verdictOf locateOf referenceOf check readOf fetchOf readWord fetch displacedBy throughOf effectiveOf jumpCheck callWay loadOf branchOf callOf effectOf executeOf planOf jumpOf returnOf listWord listPointer sourceOf capabilityOf argumentOf argumentsFrom frameAfter frameOf entered enterOf decide commit execute runFrom maySee couldWrite start memory called
+unfolding field common signedOf displacedOf literalOf pointerOf instructionOf modeOf baseOf basesOf has exists rightsOf staticOf coversOf firstOf liveMatch liveOf verdictOf locateOf referenceOf check readOf fetchOf readWord fetch displacedBy throughOf effectiveOf jumpCheck callWay loadOf branchOf callOf isLoad isStore valueOf takenOf effectOf executeOf planOf jumpOf returnOf listWord listPointer sourceOf capabilityOf argumentOf argumentsFrom frameAfter frameOf entered enterOf decide commit execute runFrom maySee couldWrite start memory called
 computed hidden rest = record {
   five = refl;
   six = refl;

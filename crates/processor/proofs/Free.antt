@@ -19,7 +19,7 @@ use Rattle.machine.specs.Reference.{accept}
 use Rattle.instructions.specs.Reader.{Reader, readOf, fetchOf}
 use Rattle.instructions.specs.Effective.{effectiveOf}
 use Rattle.instructions.specs.Plan.{Plan, halt, move, store, enter, leave}
-use Rattle.instructions.specs.Instruction.{jumpOf, callWay, callOf, returnOf, loadOf, branchOf, effectOf, executeOf, planOf, jumpCheck, gatesOf, withBase, stackOf}
+use Rattle.instructions.specs.Instruction.{jumpOf, callWay, callOf, returnOf, loadOf, branchOf, isLoad, isStore, takenOf, effectOf, executeOf, planOf, jumpCheck, gatesOf, withBase, stackOf}
 use Rattle.instructions.specs.Turn.{Turned, ended, moved, entering, leaving, settled, turnOf, planned}
 
 module _ (depth : ℕ) where
@@ -80,16 +80,12 @@ module _ (depth : ℕ) where
     effect-free : (opcode register : ℕ) (p : Pointer) → Free (effectOf lengths gates rights stacks depth r pointers read opcode register p)
     unfolding effectOf
     effect-free opcode register p =
-        either-free (eqb opcode 1) _ _ (load-free opcode p)
-        (either-free (eqb opcode 2) _ _ tt
-        (either-free (eqb opcode 3) _ _ (load-free opcode p)
-        (either-free (eqb opcode 4) _ _ (load-free opcode p)
+        either-free (isLoad opcode) _ _ (load-free opcode p)
+        (either-free (isStore opcode) _ _ tt
         (either-free (eqb opcode 5) _ _ tt
-        (either-free (eqb opcode 6) _ _ tt
         (either-free (eqb opcode 7) _ _ (jump-free p)
         (either-free (eqb opcode 8) _ _ (call-free p)
-        (either-free (eqb opcode 9) _ _ (return-free p)
-        (either-free (eqb opcode 10) _ _ (branch-free (eqb (r .a) 0) p) (branch-free (leb (2 ^ 31) (r .a)) p))))))))))
+        (either-free (eqb opcode 9) _ _ (return-free p) (branch-free (takenOf opcode (r .a)) p))))))
 
     execute-free : (i : Instruction) → Free (executeOf lengths gates rights stacks depth r pointers read i)
     unfolding executeOf

@@ -25,7 +25,7 @@ use Rattle.machine.specs.Live.{liveMatch, passedOf}
 use Rattle.instructions.specs.Reader.{Reader}
 use Rattle.instructions.specs.Effective.{displacedBy, throughOf, effectiveOf}
 use Rattle.instructions.specs.Plan.{enter, leave}
-use Rattle.instructions.specs.Instruction.{jumpOf, callWay, callOf, returnOf, loadOf, branchOf, effectOf, executeOf, planOf, jumpCheck, gatesOf}
+use Rattle.instructions.specs.Instruction.{jumpOf, callWay, callOf, returnOf, loadOf, branchOf, isLoad, isStore, takenOf, effectOf, executeOf, planOf, jumpCheck, gatesOf}
 use Rattle.crossings.specs.ArgumentList.{listWord, listPointer, sourceOf, capabilityOf, argumentOf, argumentsFrom, frameAfter, frameOf}
 use Rattle.processor.proofs.Fails.{Fails, judged-if, fails-require, fails-if, fails-accept, fails-bind, fails-past}
 use Rattle.processor.proofs.CheckNumbers.{static-judged, match-fails, pointer-fails, instruction-fails, mode-fails, moved-fails}
@@ -83,16 +83,12 @@ module _ (read : Reader) (reads : (p : Pointer) → Fails (read p)) where
     effect-fails : (opcode register : ℕ) (p : Pointer) → Fails (effectOf lengths gates rights stacks depth r pointers read opcode register p)
     unfolding effectOf
     effect-fails opcode register p =
-        fails-if (eqb opcode 1) _ _ (load-fails opcode p)
-        (fails-if (eqb opcode 2) _ _ tt
-        (fails-if (eqb opcode 3) _ _ (load-fails opcode p)
-        (fails-if (eqb opcode 4) _ _ (load-fails opcode p)
+        fails-if (isLoad opcode) _ _ (load-fails opcode p)
+        (fails-if (isStore opcode) _ _ tt
         (fails-if (eqb opcode 5) _ _ tt
-        (fails-if (eqb opcode 6) _ _ tt
         (fails-if (eqb opcode 7) _ _ (jump-fails p)
         (fails-if (eqb opcode 8) _ _ (call-fails p)
-        (fails-if (eqb opcode 9) _ _ (return-fails p)
-        (fails-if (eqb opcode 10) _ _ (branch-fails (eqb (r .a) 0) p) (branch-fails (leb (2 ^ 31) (r .a)) p))))))))))
+        (fails-if (eqb opcode 9) _ _ (return-fails p) (branch-fails (takenOf opcode (r .a)) p))))))
 
     execute-fails : (i : Instruction) → Fails (executeOf lengths gates rights stacks depth r pointers read i)
     unfolding executeOf

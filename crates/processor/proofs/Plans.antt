@@ -21,7 +21,7 @@ use Rattle.machine.proofs.Passes.{static-exists, exists-facts, never}
 use Rattle.instructions.specs.Reader.{Reader}
 use Rattle.instructions.specs.Effective.{effectiveOf}
 use Rattle.instructions.specs.Plan.{Plan, halt, move, store, enter, leave}
-use Rattle.instructions.specs.Instruction.{jumpOf, callWay, callOf, returnOf, loadOf, branchOf, effectOf, executeOf, planOf, jumpCheck, gatesOf, withBase, stackOf}
+use Rattle.instructions.specs.Instruction.{jumpOf, callWay, callOf, returnOf, loadOf, branchOf, isLoad, isStore, takenOf, effectOf, executeOf, planOf, jumpCheck, gatesOf, withBase, stackOf}
 use Rattle.processor.proofs.Says.{Says, says-bind, says-then, says-if, says-accept}
 use Rattle.processor.proofs.Pointers.{BaseLt, base-lt, effective-sound}
 
@@ -120,16 +120,12 @@ module _ (lengths gates rights stacks : List ℕ) (depth : ℕ) (r : Registers) 
       effect-sound : (opcode register : ℕ) (p : Pointer) → PointerSound p → Says PlanSound (effectOf lengths gates rights stacks depth r pointers read opcode register p)
       unfolding effectOf
       effect-sound opcode register p sp =
-          says-if PlanSound (eqb opcode 1) _ _ (λ _. load-sound opcode p) (λ _.
-          says-if PlanSound (eqb opcode 2) _ _ (λ _. on) (λ _.
-          says-if PlanSound (eqb opcode 3) _ _ (λ _. load-sound opcode p) (λ _.
-          says-if PlanSound (eqb opcode 4) _ _ (λ _. load-sound opcode p) (λ _.
+          says-if PlanSound (isLoad opcode) _ _ (λ _. load-sound opcode p) (λ _.
+          says-if PlanSound (isStore opcode) _ _ (λ _. on) (λ _.
           says-if PlanSound (eqb opcode 5) _ _ (λ _. record { segment = on .segment; word = on .word; pointers = pointer-set pointers register p ps sp }) (λ _.
-          says-if PlanSound (eqb opcode 6) _ _ (λ _. on) (λ _.
           says-if PlanSound (eqb opcode 7) _ _ (λ _. jump-sound p) (λ _.
           says-if PlanSound (eqb opcode 8) _ _ (λ _. call-sound p) (λ _.
-          says-if PlanSound (eqb opcode 9) _ _ (λ _. return-sound p) (λ _.
-          says-if PlanSound (eqb opcode 10) _ _ (λ _. branch-sound (eqb (r .a) 0) p) (λ _. branch-sound (leb (2 ^ 31) (r .a)) p))))))))))
+          says-if PlanSound (eqb opcode 9) _ _ (λ _. return-sound p) (λ _. branch-sound (takenOf opcode (r .a)) p))))))
 
       execute-sound : (i : Instruction) → BaseLt i → Says PlanSound (executeOf lengths gates rights stacks depth r pointers read i)
       unfolding executeOf
