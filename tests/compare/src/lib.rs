@@ -3,9 +3,11 @@
 mod answers;
 mod checks;
 pub mod images;
+pub mod isolation;
 #[cfg_attr(library_missing, path = "library_missing.rs")]
 pub mod library;
 mod references;
+pub mod runs;
 
 pub use answers::{Answers, Kind};
 pub use checks::compare_checks;

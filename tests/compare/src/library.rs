@@ -96,11 +96,12 @@ pub fn write(bytes: &[u8], words: &[u32], output: &mut [u8]) -> u32 {
     }
 }
 
-/// Runs the machine whose record `bytes` hold, or makes a stretch of it; the
-/// ending and the count.
-pub fn run(bytes: &mut [u8], words: &mut [u32], limit: u16, stretches: bool) -> u32 {
-    // SAFETY: each pointer and length are those of a slice. The function
-    // writes within them.
+/// Runs the machine whose record `bytes` hold, or makes a stretch of it if
+/// `stretches` is 1. Gives the ending's kind in bits 24 to 31, the number of a
+/// fault or refusal in bits 16 to 23, the count in bits 0 to 15.
+pub fn run(bytes: &mut [u8], words: &mut [u32], limit: u16, stretches: u8) -> u32 {
+    // SAFETY: each pointer and length are those of a slice, within which the
+    // function reads and writes.
     unsafe {
         zenkorv_run(
             bytes.as_mut_ptr(),
@@ -108,7 +109,7 @@ pub fn run(bytes: &mut [u8], words: &mut [u32], limit: u16, stretches: bool) -> 
             words.as_mut_ptr(),
             words.len(),
             limit,
-            u8::from(stretches),
+            stretches,
         )
     }
 }

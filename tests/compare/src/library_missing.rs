@@ -23,3 +23,8 @@ pub fn read(_: &[u8], _: &mut [u8], _: &mut [u32]) -> u8 {
 pub fn write(_: &[u8], _: &[u32], _: &mut [u8]) -> u32 {
     panic!("{MISSING}")
 }
+
+/// There is nothing to run with.
+pub fn run(_: &mut [u8], _: &mut [u32], _: u16, _: u8) -> u32 {
+    panic!("{MISSING}")
+}

@@ -5,8 +5,8 @@ use reference::words::{Instruction, OPCODES};
 use reference::{read_image, Completed, Ending, Fault, Machine, Processor, Refusal, Run};
 use std::fmt;
 
-/// Upper borders of the histogram of instructions per image.
-const BORDERS: [u32; 8] = [0, 4, 9, 19, 49, 99, 499, 1000];
+/// Upper borders of the histogram of instructions per run.
+const BORDERS: [u32; 8] = [0, 4, 9, 19, 49, 99, 499, 65_535];
 
 /// Counts over a batch.
 #[derive(Clone, Debug, Default)]
@@ -23,6 +23,8 @@ pub struct Reached {
     pub refusals: [u64; 6],
     pub halted: u64,
     pub spent: u64,
+    /// Stretches that ended after a crossing.
+    pub crossed: u64,
     /// Crossing calls by number of arguments.
     pub calls: [u64; 9],
     pub calls_inside: u64,
@@ -31,11 +33,11 @@ pub struct Reached {
     pub relayed_calls: u64,
     pub passed_on: u64,
     pub tagged_indirect: u64,
-    /// Images by the most frames that were in use.
+    /// Runs by the most frames that were in use.
     pub frames: [u64; 9],
-    /// Images by instructions completed.
+    /// Runs by instructions completed.
     pub lengths: [u64; 8],
-    /// Images in which 20 or more instructions completed.
+    /// Runs in which 20 or more instructions completed.
     pub twenty: u64,
 }
 
@@ -48,21 +50,29 @@ impl Reached {
         memory: &mut [u32],
         limit: u16,
     ) -> Result<(Machine, Run), Refusal> {
-        self.images += 1;
         let mut machine = Machine::default();
-        if let Err(refusal) = read_image(image, &mut machine, memory) {
-            self.refusals[usize::from(refusal.number()) - 1] += 1;
-            return Err(refusal);
-        }
-        let run = self.observe_run(&mut machine, memory, limit)?;
+        let read = read_image(image, &mut machine, memory);
+        self.count_read(read.map_or_else(Refusal::number, |()| 0));
+        read?;
+        let run = self.observe_run(&mut machine, memory, limit, false)?;
         Ok((machine, run))
     }
 
-    fn observe_run(
+    /// Counts an image by the number that its reader gave, 0 to 6.
+    pub fn count_read(&mut self, number: u8) {
+        self.images += 1;
+        if let Some(refusal) = usize::from(number).checked_sub(1) {
+            self.refusals[refusal] += 1;
+        }
+    }
+
+    /// Runs a machine up to the limit, or makes a stretch of it, and counts.
+    pub fn observe_run(
         &mut self,
         machine: &mut Machine,
         memory: &mut [u32],
         limit: u16,
+        stop_at_crossing: bool,
     ) -> Result<Run, Refusal> {
         let first_words = first_words(machine);
         let mut processor = Processor::new(machine, memory)?;
@@ -72,6 +82,9 @@ impl Reached {
             match self.observe_step(&mut processor, &first_words) {
                 Err(fault) => ending = Ending::Faulted(fault),
                 Ok(Completed::Halted) => ending = Ending::Halted,
+                Ok(completed) if stop_at_crossing && completed.is_crossing() => {
+                    ending = Ending::Crossed;
+                }
                 Ok(_) => {}
             }
             count += u16::from(ending.fault() == 0);
@@ -85,7 +98,8 @@ impl Reached {
         match ending {
             Ending::Halted => self.halted += 1,
             Ending::Faulted(fault) => self.faults[usize::from(fault.number()) - 21] += 1,
-            Ending::Spent | Ending::Crossed => self.spent += 1,
+            Ending::Spent => self.spent += 1,
+            Ending::Crossed => self.crossed += 1,
         }
         self.frames[usize::from(frames)] += 1;
         self.twenty += u64::from(count >= 20);
@@ -141,8 +155,9 @@ impl Reached {
         let first = first_words[usize::from(list.segment)] + usize::from(list.word);
         let n = processor.memory()[first] as usize;
         self.calls[n] += 1;
-        let words = &processor.memory()[first..first + 3 + 2 * n];
-        let tagged = words[3..].iter().step_by(2).filter(|&word| word >> 31 == 1);
+        let arguments = first + 3..first + 3 + 2 * n;
+        let words = processor.memory().get(arguments).unwrap_or(&[]);
+        let tagged = words.iter().step_by(2).filter(|&word| word >> 31 == 1);
         self.passed_on += tagged.count() as u64;
     }
 }
@@ -162,10 +177,10 @@ impl fmt::Display for Reached {
         writeln!(out, "images {}", self.images)?;
         let faults: u64 = self.faults.iter().sum();
         let refused: u64 = self.refusals.iter().sum();
-        let (halted, spent) = (self.halted, self.spent);
+        let (halted, spent, crossed) = (self.halted, self.spent, self.crossed);
         writeln!(
             out,
-            "endings: halted {halted} faulted {faults} spent {spent} refused {refused}"
+            "endings: halted {halted} faulted {faults} spent {spent} crossed {crossed} refused {refused}"
         )?;
         writeln!(out, "completed by opcode:")?;
         for (opcode, count) in OPCODES.iter().zip(self.completed) {
@@ -177,20 +192,21 @@ impl fmt::Display for Reached {
         }
         row(out, "refusals", 1, &self.refusals)?;
         row(out, "crossing calls by arguments", 0, &self.calls)?;
-        row(out, "images by most frames in use", 0, &self.frames)?;
+        row(out, "runs by most frames in use", 0, &self.frames)?;
         writeln!(out, "calls inside a domain {}", self.calls_inside)?;
         writeln!(out, "calls with a tagged a {}", self.relayed_calls)?;
         writeln!(out, "tagged returns {}", self.tagged_returns)?;
         writeln!(out, "passed-on arguments {}", self.passed_on)?;
         writeln!(out, "tagged indirect reads {}", self.tagged_indirect)?;
         writeln!(out, "matches failed by source {}", self.faults[4])?;
-        write!(out, "images by instructions completed:")?;
+        write!(out, "runs by instructions completed:")?;
         for (border, count) in BORDERS.iter().zip(self.lengths) {
             write!(out, " <={border}: {count}")?;
         }
         writeln!(out)?;
-        let share = 100.0 * self.twenty as f64 / self.images.max(1) as f64;
-        writeln!(out, "images with 20 or more instructions {share:.1}%")
+        let runs: u64 = self.lengths.iter().sum();
+        let share = 100.0 * self.twenty as f64 / runs.max(1) as f64;
+        writeln!(out, "runs with 20 or more instructions {share:.1}%")
     }
 }
 

@@ -1,8 +1,14 @@
 //! What the tests of whole images share: a bench that holds a machine with
 //! its memory, and the layout of three subsystems A, B and C.
+//!
+//! Where the proved library is there, each call on a bench is made by it too,
+//! and its answer, record and words must be the reference's.
 
 use assembler::{Code, ImageBuilder, E, G, R, W};
+use compare::library;
+use compare::runs::{both_call, both_run_image, Call};
 use reference::record::{Capability, Frame};
+use reference::report::PRINTED_LIMIT;
 use reference::words::Pointer;
 use reference::{Ending, Fault, Machine, Run};
 
@@ -28,13 +34,29 @@ impl Bench {
         }
     }
 
+    /// Makes a call by the library too, on a copy.
+    fn by_library_too(&self, call: Call) {
+        if library::linked().is_ok() {
+            let called = both_call(&self.machine, &self.memory, call);
+            called.unwrap_or_else(|difference| panic!("{difference}"));
+        }
+    }
+
     /// Runs up to the limit.
     pub fn run(&mut self, limit: u16) -> Run {
+        self.by_library_too(Call::Run(limit));
         reference::run(&mut self.machine, &mut self.memory, limit).expect("sound")
+    }
+
+    /// Makes a stretch up to the limit.
+    pub fn stretch(&mut self, limit: u16) -> Run {
+        self.by_library_too(Call::Stretch(limit));
+        reference::stretch(&mut self.machine, &mut self.memory, limit).expect("sound")
     }
 
     /// One instruction; gives its number.
     pub fn step(&mut self) -> u8 {
+        self.by_library_too(Call::Step);
         reference::step(&mut self.machine, &mut self.memory).number
     }
 
@@ -148,6 +170,16 @@ pub struct Expected<'a> {
     pub changed: &'a [(u8, u16, u32)],
 }
 
+/// What a program prints that runs an image for 1,000 instructions. The image
+/// is read and run by the library too.
+pub fn printed(image: &[u8]) -> String {
+    if library::linked().is_ok() {
+        let ran = both_run_image(image, PRINTED_LIMIT);
+        ran.unwrap_or_else(|difference| panic!("{difference}"));
+    }
+    reference::report::printed(image)
+}
+
 /// Runs an image for 1,000 instructions and compares all of the result, the
 /// printed one too.
 pub fn expect(image: &ImageBuilder, expected: Expected) -> Bench {
@@ -162,7 +194,7 @@ pub fn expect(image: &ImageBuilder, expected: Expected) -> Bench {
         "end {ending}\ncount {}\ndomain {}\nat {segment} {word}\na {}\n",
         expected.count, expected.domain, expected.a
     );
-    assert_eq!(reference::report::printed(&image.bytes()), lines);
+    assert_eq!(printed(&image.bytes()), lines);
     assert_eq!(run.ending.fault(), expected.fault);
     assert_eq!(run.count, expected.count);
     assert_eq!(bench.machine.frame_count, expected.frames, "frames");

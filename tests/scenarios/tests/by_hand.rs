@@ -2,7 +2,7 @@
 
 use assembler::*;
 use reference::checks::{live_check, pass_on, static_check, Flag};
-use reference::report::{entry, printed};
+use reference::report::entry;
 use reference::words::{Instruction, Mode, Opcode, Pointer};
 use reference::{Ending, Fault};
 use scenarios::*;

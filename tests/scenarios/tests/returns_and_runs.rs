@@ -230,15 +230,15 @@ fn a_stretch_ends_right_after_its_first_crossing() {
     bench.set(4, 1, pointer(0, 2));
     for limit in [2, 3, 65_535] {
         let mut bench = bench.clone();
-        let done = stretch(&mut bench.machine, &mut bench.memory, limit).unwrap();
+        let done = bench.stretch(limit);
         assert_eq!((done.ending, done.count), (Ending::Crossed, 2));
         assert_eq!(bench.machine.domain, 1);
     }
     let mut short = bench.clone();
-    let done = stretch(&mut short.machine, &mut short.memory, 1).unwrap();
+    let done = short.stretch(1);
     assert_eq!((done.ending, done.count), (Ending::Spent, 1));
     bench.set(4, 0, 9u32);
-    let done = stretch(&mut bench.machine, &mut bench.memory, 100).unwrap();
+    let done = bench.stretch(100);
     assert_eq!(done.ending, Ending::Faulted(Fault::BadList));
     assert_eq!(done.count, 1);
 }
@@ -247,7 +247,7 @@ fn a_stretch_ends_right_after_its_first_crossing() {
 fn a_call_inside_the_domain_is_no_crossing() {
     let mut bench = world(&[call(3, 0), halt()]);
     bench.machine.pointers[3] = untagged_at(0, 1);
-    let done = stretch(&mut bench.machine, &mut bench.memory, 100).unwrap();
+    let done = bench.stretch(100);
     assert_eq!((done.ending, done.count), (Ending::Halted, 2));
 }
 

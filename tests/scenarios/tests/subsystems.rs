@@ -344,7 +344,7 @@ fn callback_into_the_calling_domain() {
         (2, DOMAIN_A, (0, 6), 1, 0),
     ];
     for (count, domain, (segment, word), stack, frames) in crossings {
-        let run = reference::stretch(&mut bench.machine, &mut bench.memory, 1000).unwrap();
+        let run = bench.stretch(1000);
         assert_eq!(run.ending, reference::Ending::Crossed);
         assert_eq!(run.count, count);
         let machine = &bench.machine;

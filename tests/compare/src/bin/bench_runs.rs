@@ -111,7 +111,7 @@ fn by_library(image: &[u8]) -> (f64, Vec<u8>, Vec<u32>) {
     let mut record = record_bytes(&machine);
     let start = Instant::now();
     for _ in 0..CALLS {
-        let code = library::run(black_box(&mut record), &mut words, LIMIT, false);
+        let code = library::run(black_box(&mut record), &mut words, LIMIT, 0);
         assert_eq!(code, 0x200_0000 + u32::from(LIMIT));
     }
     (per_instruction(start), record, words)

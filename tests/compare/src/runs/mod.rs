@@ -1,0 +1,301 @@
+//! Whole runs of the proved library held against the reference's.
+
+mod call;
+mod instructions;
+mod pair;
+mod states;
+mod tally;
+
+pub use call::{code, code_of, kind, number, Call, Kind};
+pub use pair::{both_call, both_run_image, Pair};
+pub use tally::Tally;
+
+use crate::{hex, library};
+use generator::records::{self, Snapshot};
+use generator::{damaged_image, image, Rng};
+use reference::record::{ACTIVATION_POINTER, FRAMES};
+use reference::{record_bytes, Machine, MEMORY_WORDS};
+use std::ops::Range;
+
+/// Most words that are lent past the 8,192.
+const MORE_WORDS: usize = 100;
+/// Most calls made after the first one on each machine.
+const FURTHER_CALLS: usize = 4;
+/// One image in so many is also run in single steps.
+const STEPPED: u64 = 50;
+/// Most single steps in a row.
+const STEPS: u32 = 200;
+/// Records of which each byte is changed.
+const CHANGED_RECORDS: u64 = 6;
+
+/// Calls that were compared so far.
+pub struct Comparison {
+    pub tally: Tally,
+    seed: u64,
+    pair: Pair,
+    /// The state before the last call.
+    before: Snapshot,
+    /// Words that memories begin with.
+    words: Vec<u32>,
+}
+
+impl Comparison {
+    /// Begins; fails if the library is missing.
+    pub fn new(seed: u64) -> Result<Comparison, String> {
+        library::linked()?;
+        let mut rng = Rng::new(seed, 0);
+        let words = (0..MEMORY_WORDS + MORE_WORDS).map(|_| rng.next() as u32);
+        Ok(Comparison {
+            tally: Tally::default(),
+            seed,
+            pair: Pair::default(),
+            before: Snapshot {
+                machine: Machine::default(),
+                memory: Vec::new(),
+            },
+            words: words.collect(),
+        })
+    }
+
+    /// Images of these indexes, read into an empty record and run.
+    pub fn generated(&mut self, indexes: Range<u64>) -> Result<(), String> {
+        for index in indexes {
+            let mut rng = Rng::new(self.seed ^ 1, index);
+            let bytes = image(self.seed, index);
+            self.image(&mut rng, index, &bytes, None)
+                .map_err(|what| described("image", index, &bytes, &what))?;
+        }
+        Ok(())
+    }
+
+    /// Damaged images of these indexes, read over a machine in the middle of
+    /// a run, which goes on where the read is refused.
+    pub fn damaged(&mut self, indexes: Range<u64>) -> Result<(), String> {
+        for index in indexes {
+            let mut rng = Rng::new(self.seed ^ 2, index);
+            let bytes = damaged_image(self.seed, index);
+            let start = match rng.below(2) {
+                0 => records::mid_run(&mut rng),
+                _ => records::sound(&mut rng),
+            };
+            self.image(&mut rng, index, &bytes, Some(&start))
+                .map_err(|what| described("damaged image", index, &bytes, &what))?;
+        }
+        Ok(())
+    }
+
+    /// One image: read, a first run, further calls; some in steps too.
+    fn image(
+        &mut self,
+        rng: &mut Rng,
+        index: u64,
+        bytes: &[u8],
+        start: Option<&Snapshot>,
+    ) -> Result<(), String> {
+        self.read(rng, bytes, start)?;
+        self.call(Call::Run(first_limit(rng, index)))?;
+        self.further_calls(rng)?;
+        if index.is_multiple_of(STEPPED) {
+            self.read(rng, bytes, start)?;
+            self.steps()?;
+        }
+        Ok(())
+    }
+
+    /// Reads an image over a state of both.
+    fn read(
+        &mut self,
+        rng: &mut Rng,
+        bytes: &[u8],
+        start: Option<&Snapshot>,
+    ) -> Result<(), String> {
+        self.begin(rng, start);
+        let read = self.pair.read(bytes);
+        let number = read.map_err(|what| format!("{what}\n{}", self.state_before()))?;
+        self.tally.add_read(number);
+        self.before.machine.clone_from(&self.pair.machine);
+        self.before.memory.copy_from_slice(&self.pair.memory);
+        Ok(())
+    }
+
+    /// Gives both a state: the one given, else an empty record. The words
+    /// past its segments are random, at times more than 8,192 in all.
+    fn begin(&mut self, rng: &mut Rng, start: Option<&Snapshot>) {
+        let length = MEMORY_WORDS + rng.pick(&[0, 0, 0, 1, MORE_WORDS]);
+        let after = rng.pick(&[0, 0, 0, 1, 40]);
+        let mut machine = Machine::default();
+        let memory = &mut self.before.memory;
+        memory.clear();
+        memory.extend_from_slice(&self.words[..length]);
+        if let Some(start) = start {
+            machine.clone_from(&start.machine);
+            let words = existing_words(&machine);
+            memory[..words].copy_from_slice(&start.memory[..words]);
+        }
+        let after: Vec<u8> = (0..after).map(|_| rng.next() as u8).collect();
+        self.pair.set(&machine, memory, &after);
+        self.before.machine = machine;
+    }
+
+    /// Calls on a machine that has run before, up to one that ends it.
+    fn further_calls(&mut self, rng: &mut Rng) -> Result<(), String> {
+        for _ in 0..FURTHER_CALLS {
+            if rng.chance(20) {
+                self.turn_a_tag(rng);
+            }
+            let code = self.call(further_call(rng))?;
+            if !goes_on(code) {
+                break;
+            }
+        }
+        Ok(())
+    }
+
+    /// Turns the tag of a register or of a frame's recorded s, in both states;
+    /// programs seldom do that between a call and its return.
+    fn turn_a_tag(&mut self, rng: &mut Rng) {
+        let Snapshot { machine, memory } = &mut self.before;
+        let frames = usize::from(machine.frame_count).min(FRAMES);
+        let turned = match rng.below(4) {
+            0 => &mut machine.pointers[rng.below(8) as usize],
+            1 if frames > 0 => &mut machine.frames[frames - 1].s,
+            _ => &mut machine.pointers[ACTIVATION_POINTER],
+        };
+        turned.tag = !turned.tag;
+        self.pair.set_both(machine, memory);
+    }
+
+    /// Single steps in a row, up to a HALT or a fault and one beyond it.
+    fn steps(&mut self) -> Result<(), String> {
+        for _ in 0..STEPS {
+            let code = self.call(Call::Step)?;
+            if !goes_on(code) {
+                self.call(Call::Step)?;
+                break;
+            }
+        }
+        Ok(())
+    }
+
+    /// One call. Gives its code.
+    fn call(&mut self, call: Call) -> Result<u32, String> {
+        let called = self.pair.call(call).and_then(|code| {
+            self.left_alone_if_refused(code)?;
+            self.watch(call, code)?;
+            self.tally.add_call(call, code);
+            Ok(code)
+        });
+        called.map_err(|what| format!("{what}\n{}", self.state_before()))
+    }
+
+    /// A refused call leaves all as it was.
+    fn left_alone_if_refused(&self, code: u32) -> Result<(), String> {
+        let Snapshot { machine, memory } = &self.before;
+        let same = || self.pair.machine == *machine && self.pair.memory == *memory;
+        if kind(code) != Some(Kind::Refused) || same() {
+            return Ok(());
+        }
+        Err(format!("changed by a refused call, {code:#010x}"))
+    }
+
+    /// Brings the state before the call up to date: a run or stretch is made
+    /// once more, instruction by instruction, and what it reached is counted.
+    fn watch(&mut self, call: Call, code: u32) -> Result<(), String> {
+        let Snapshot { machine, memory } = &mut self.before;
+        let (limit, stretch) = (call.limit(), call.is_stretch());
+        let watched = match call {
+            Call::Step => call.by_reference(machine, memory),
+            _ => {
+                let reached = &mut self.tally.reached;
+                code_of(reached.observe_run(machine, memory, limit, stretch))
+            }
+        };
+        if watched != code || *machine != self.pair.machine {
+            return Err(format!("{call:?} observed gives {watched:#010x}"));
+        }
+        Ok(())
+    }
+
+    /// Record and existing words before the last call.
+    fn state_before(&self) -> String {
+        let Snapshot { machine, memory } = &self.before;
+        let words = &memory[..existing_words(machine).min(memory.len())];
+        let bytes: Vec<u8> = words.iter().flat_map(|word| word.to_le_bytes()).collect();
+        format!(
+            "record before the call {}\nits words {}\nwords lent {}",
+            hex(&record_bytes(machine)),
+            hex(&bytes),
+            memory.len()
+        )
+    }
+}
+
+/// Whether the next call does more than this one: it wasn't refused, and the
+/// machine neither halted nor faulted.
+fn goes_on(code: u32) -> bool {
+    matches!(kind(code), Some(Kind::Spent | Kind::Crossed))
+}
+
+/// The limit of an image's first run.
+fn first_limit(rng: &mut Rng, index: u64) -> u16 {
+    match index % 64 {
+        0 => 65_535,
+        1..=3 => 0,
+        4..=9 => 1,
+        10..=45 => rng.between(2, 60) as u16,
+        _ => 1000,
+    }
+}
+
+/// A call on a machine that has run before: a third are stretches.
+fn further_call(rng: &mut Rng) -> Call {
+    let limit = match rng.below(12) {
+        0 => 0,
+        1 | 2 => 1,
+        3..=8 => rng.between(2, 60) as u16,
+        _ => 1000,
+    };
+    match rng.below(18) {
+        0..=5 => Call::Stretch(limit),
+        6 => Call::OtherByte(limit, rng.between(2, 255) as u8),
+        _ => Call::Run(limit),
+    }
+}
+
+/// How many words the segments of a machine have in all.
+fn existing_words(machine: &Machine) -> usize {
+    let rows = machine.segments.iter();
+    rows.map(|row| usize::from(row.length)).sum()
+}
+
+/// A difference with the image it was found on.
+fn described(name: &str, index: u64, bytes: &[u8], what: &str) -> String {
+    format!("{name} {index}: {what}\nimage {}", hex(bytes))
+}
+
+/// Compares all. Calls `progress` after each part, and after each tenth of
+/// the images.
+pub fn compare_runs(
+    seed: u64,
+    count: u64,
+    mut progress: impl FnMut(&str, &Tally),
+) -> Result<Tally, String> {
+    let mut all = Comparison::new(seed)?;
+    all.short_memories()?;
+    all.short_records()?;
+    all.changed_bytes(CHANGED_RECORDS)?;
+    all.garbage(count / 10)?;
+    progress(
+        "records that are not sound, short ones, short memories",
+        &all.tally,
+    );
+    for tenth in 0..10 {
+        let indexes = count * tenth / 10..count * (tenth + 1) / 10;
+        let part = format!("images and single instructions up to {}", indexes.end);
+        all.instructions(indexes.clone())?;
+        all.generated(indexes.clone())?;
+        all.damaged(indexes)?;
+        progress(&part, &all.tally);
+    }
+    Ok(all.tally)
+}

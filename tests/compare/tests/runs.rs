@@ -1,0 +1,72 @@
+//! Whole runs by the proved library and by the reference give the same.
+
+use compare::library;
+use compare::runs::{code, kind, number, Call, Comparison, Kind, Pair};
+use generator::{records, Rng};
+
+/// A fixed batch of a few thousand images and records.
+fn batch(all: &mut Comparison) -> Result<(), String> {
+    all.short_memories()?;
+    all.short_records()?;
+    all.changed_bytes(2)?;
+    all.garbage(300)?;
+    all.instructions(0..2000)?;
+    all.generated(0..2000)?;
+    all.damaged(0..1000)
+}
+
+#[test]
+fn the_runs_agree() {
+    let mut all = Comparison::new(7).unwrap_or_else(|missing| panic!("{missing}"));
+    batch(&mut all).unwrap_or_else(|difference| panic!("{difference}"));
+    let (tally, reached) = (&all.tally, &all.tally.reached);
+    for (number, count) in (21..).zip(reached.faults) {
+        assert!(count >= 20, "few of fault {number}\n{tally}");
+    }
+    for (number, count) in (1..).zip(reached.refusals) {
+        assert!(count >= 50, "few of refusal {number}\n{tally}");
+    }
+    for (n, count) in reached.calls.iter().enumerate() {
+        assert!(*count >= 100, "few calls with {n} arguments\n{tally}");
+    }
+    assert!(reached.frames[8] >= 50, "eight frames\n{tally}");
+    assert!(reached.tagged_returns >= 1000, "returns\n{tally}");
+    for kind in [Kind::Halted, Kind::Faulted, Kind::Spent, Kind::Refused] {
+        let few = tally.of(kind).iter().any(|&count| count < 50);
+        assert!(!few, "few of {kind:?}\n{tally}");
+    }
+    let [runs, stretches] = tally.of(Kind::Crossed);
+    assert!(runs == 0 && stretches >= 200, "crossings\n{tally}");
+    for number in [7, 8, 9] {
+        let few = tally.refused_with(number) < 40;
+        assert!(!few, "few calls refused with {number}\n{tally}");
+    }
+}
+
+#[test]
+fn a_state_that_differs_is_seen() {
+    library::linked().unwrap_or_else(|missing| panic!("{missing}"));
+    let snapshot = records::sound(&mut Rng::new(7, 0));
+    let mut pair = Pair::default();
+    pair.set(&snapshot.machine, &snapshot.memory, &[1, 2]);
+    assert_eq!(pair.call(Call::Run(0)), Ok(code(Kind::Spent, 0, 0)));
+    for place in [0, 300, 918, 919, 920] {
+        let mut other = pair.clone();
+        other.bytes[place] ^= 1;
+        assert!(other.call(Call::Run(0)).is_err(), "byte {place}");
+    }
+    for place in [0, 4095, 8191] {
+        let mut other = pair.clone();
+        other.words[place] ^= 1;
+        assert!(other.call(Call::Run(0)).is_err(), "word {place}");
+    }
+}
+
+#[test]
+fn codes_hold_kind_number_and_count() {
+    assert_eq!(code(Kind::Refused, 8, 0), 0x0408_0000);
+    assert_eq!(code(Kind::Faulted, 32, 65_535), 0x0120_FFFF);
+    assert_eq!(kind(0x0120_FFFF), Some(Kind::Faulted));
+    assert_eq!(number(0x0120_FFFF), 32);
+    assert_eq!(kind(0x0500_0000), None);
+}
