@@ -9,18 +9,28 @@ use borrow.Author.Tests.{eqb-true}
 use lib.Dec.{eqb}
 use Rattle.words.specs.Answer.{Answer, refuse, ok, if_then_else_}
 use Rattle.words.specs.Field.{field, common}
+use Rattle.words.specs.Arithmetic.{sumOf, differenceOf}
 use Rattle.words.specs.PointerWord.{pointerOf}
 use Rattle.words.specs.Offset.{signedOf, displacedOf, literalOf}
 use Rattle.words.specs.InstructionWord.{instructionOf}
+use Rattle.words.specs.ModeWord.{modeOf}
 use Rattle.state.specs.Bases.{baseOf, basesOf}
 use Rattle.soundness.specs.Fresh.{freshOf}
 use Rattle.soundness.specs.Sound.{allFrom, segmentTest, stackTest, rightsTest, startTest, layoutTest, registersTest, pointerTest, pointersTest, capabilityTest, emptyCapability, emptyPointer, emptyFrame, frameTest, framesTest, soundTest}
 use Rattle.machine.specs.Flag.{has}
 use Rattle.machine.specs.Static.{exists, rightsOf, staticOf}
-use Rattle.machine.specs.Search.{coversOf, firstOf}
+use Rattle.capabilities.specs.Search.{coversOf, firstOf}
 use Rattle.machine.specs.Live.{liveMatch, liveOf, passedOf}
-use Rattle.machine.specs.Reference.{verdictOf, referenceOf}
-use Rattle.machine.specs.Machine.{check, judgedCheck}
+use Rattle.machine.specs.Reference.{verdictOf, locateOf, referenceOf}
+use Rattle.machine.specs.Machine.{check}
+use Rattle.checks.specs.Judged.{judgedCheck}
+use Rattle.instructions.specs.Reader.{readOf, fetchOf, readWord, fetch}
+use Rattle.instructions.specs.Effective.{displacedBy, throughOf, effectiveOf}
+use Rattle.instructions.specs.Instruction.{callWay, callOf, loadOf, isLoad, isStore, valueOf, takenOf, effectOf, executeOf, planOf}
+use Rattle.crossings.specs.ArgumentList.{listWord, sourceOf, capabilityOf, listPointer, argumentOf, argumentsFrom, frameAfter, frameOf}
+use Rattle.crossings.specs.Crossing.{entered, enterOf}
+use Rattle.processor.specs.Step.{decide, commit, execute}
+use Rattle.processor.specs.Run.{runFrom, judged, calledOf, runCall}
 use Rattle.readings.specs.Question.{answer}
 use Rattle.readings.specs.Table.{Row, table}
 
@@ -75,5 +85,8 @@ pub readings : (r : Row) → List·Memᴰ r table → answer (r .asked) ≡ r .d
 unfolding field common pointerOf signedOf displacedOf literalOf instructionOf
     baseOf basesOf freshOf allFrom segmentTest stackTest rightsTest startTest layoutTest registersTest pointerTest pointersTest
     capabilityTest emptyCapability emptyPointer emptyFrame frameTest framesTest soundTest
-    has exists rightsOf staticOf coversOf firstOf liveMatch liveOf passedOf verdictOf referenceOf check judgedCheck
+    has exists rightsOf staticOf coversOf firstOf liveMatch liveOf passedOf verdictOf locateOf referenceOf check judgedCheck
+    sumOf differenceOf readOf fetchOf readWord fetch displacedBy throughOf effectiveOf
+    callWay callOf loadOf isLoad isStore valueOf takenOf effectOf executeOf planOf modeOf listWord sourceOf capabilityOf listPointer argumentOf argumentsFrom frameAfter frameOf
+    entered enterOf decide commit execute runFrom judged calledOf runCall
 readings = each table refl

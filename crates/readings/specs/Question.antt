@@ -3,7 +3,7 @@ use Prim.Native.Nat.{ℕ}
 use mathlib.Core.Bool.{Bool}
 use mathlib.Core.List.{List, [], _∷_}
 use lib.IntN.{ℤ}
-use Rattle.words.specs.Answer.{Answer, ok, _>>=_}
+use Rattle.words.specs.Answer.{Answer, refuse, ok, _>>=_}
 use Rattle.words.specs.Bit.{bit}
 use Rattle.words.specs.PointerWord.{pointerOf}
 use Rattle.words.specs.Offset.{displacedOf, literalOf}
@@ -13,8 +13,9 @@ use Rattle.state.specs.declared.record.Machine.{Machine}
 use Rattle.state.specs.Record.{inUse, liveFrame}
 use Rattle.machine.specs.declared.flag.Access.the-variants as access
 use Rattle.machine.specs.Live.{passedOf}
-use Rattle.machine.specs.Machine.{judgedCheck}
-use Rattle.readings.specs.Scene.{Scene, machineOf}
+use Rattle.checks.specs.Judged.{judgedCheck}
+use Rattle.processor.specs.Run.{Ran, Ending, halted, spent, crossed, faulted, refused, runCall}
+use Rattle.readings.specs.Scene.{Scene, machineOf, startOf, memoryOf}
 
 pub data Question : Type 0 where
   pointer : ℕ → Question
@@ -23,10 +24,22 @@ pub data Question : Type 0 where
   reading : Scene → Pointer → Question
   writing : Scene → Pointer → Question
   passing : Scene → Pointer → ℕ → Bool → Bool → Question
+  executing : Scene → ℕ → Pointer → List ℕ → Question
 
 -- passing an argument on from the live frame of a machine
 abbrev passed : Machine → Pointer → ℕ → Bool → Bool → Answer ℕ
 passed m p length read write = passedOf (inUse (m .depth)) (liveFrame (m .depth) (m .frames)) (p .segment) (p .word) length read write
+
+-- A after a run, or the number of its refusal or fault
+abbrev endsWith : ℕ → Ending → Answer (List ℕ)
+endsWith a halted = ok (a ∷ [])
+endsWith a spent = ok (a ∷ [])
+endsWith a crossed = ok (a ∷ [])
+endsWith a (faulted n) = refuse n
+endsWith a (refused n) = refuse n
+
+abbrev lastA : Ran → Answer (List ℕ)
+lastA r = endsWith (r .machine .registers .a) (r .ending)
 
 -- what is answered: a refusal's number, or values in the order that the comment of the case gives
 abbrev pub answer : Question → Answer (List ℕ)
@@ -42,3 +55,5 @@ answer (reading s p) = judgedCheck (machineOf s) access.Read p >>= (λ i. ok (i 
 answer (writing s p) = judgedCheck (machineOf s) access.Write p >>= (λ i. ok (i ∷ []))
 -- the source
 answer (passing s p length read write) = passed (machineOf s) p length read write >>= (λ d. ok (d ∷ []))
+-- A after one instruction
+answer (executing s a p words) = lastA (runCall 1 (startOf s a p) (memoryOf words))

@@ -11,9 +11,10 @@ use Rattle.state.specs.declared.record.Machine.{Machine}
 use Rattle.state.specs.Record.{noPointer, noCapability}
 use Rattle.soundness.specs.Fresh.{freshOf}
 
--- the segments' lengths, for each domain its rights on them, and the capabilities of the live frame; domain 0 executes
+-- the segments' lengths and gate counts, for each domain its rights on them, and the capabilities of the live frame; domain 0 executes, and gates lead into it
 pub record Scene : Type 0 where
   pub lengths : List ℕ
+  pub gates : List ℕ
   pub rights : List (List ℕ)
   pub capabilities : List Capability
 
@@ -43,7 +44,7 @@ abbrev layoutOf : Scene → Layout
 layoutOf s =
     record {
       lengths = fill 16 0 (s .lengths);
-      gates = replicate 16 0;
+      gates = fill 16 0 (s .gates);
       start = record { word = 0; segment = 0; domain = 0 };
       gatedomains = replicate 16 0;
       stacks = replicate 8 0;
@@ -69,3 +70,19 @@ framed m (c ∷ cs) =
 
 abbrev pub machineOf : Scene → Machine
 machineOf s = framed (freshOf (layoutOf s)) (s .capabilities)
+
+-- the machine of a scene with this A and this pointer in register 0; its instruction is at word 0 of segment 0
+abbrev pub startOf : Scene → ℕ → Pointer → Machine
+startOf s a p =
+    let m = machineOf s in
+    record {
+      layout = m .layout;
+      registers = record { a = a; word = m .registers .word; segment = m .registers .segment; domain = m .registers .domain };
+      pointers = set (m .pointers) 0 p;
+      frames = m .frames;
+      depth = m .depth;
+    }
+
+-- a memory that begins with these words
+abbrev pub memoryOf : List ℕ → List ℕ
+memoryOf words = words ++ replicate 8192 0

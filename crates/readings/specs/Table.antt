@@ -3,9 +3,10 @@ use Prim.Native.Nat.{ℕ}
 use mathlib.Core.Bool.{true}
 use mathlib.Core.List.{List, [], _∷_, _++_}
 use lib.IntN.{pos, negsuc}
+use lib.ListN.{replicate}
 use Rattle.words.specs.Answer.{Answer, refuse, ok}
 use Rattle.readings.specs.Scene.{Scene, untagged, tagged, readOn, writeOn}
-use Rattle.readings.specs.Question.{Question, pointer, instruction, displace, reading, writing, passing}
+use Rattle.readings.specs.Question.{Question, pointer, instruction, displace, reading, writing, passing, executing}
 
 pub record Row : Type 0 where
   pub asked : Question
@@ -17,24 +18,43 @@ q gives a = record { asked = q; due = a }
 infix 4 _gives_
 -- a segment of 10 words, on which the domain has the rights r
 abbrev tenWords : ℕ → Scene
-tenWords r = record { lengths = 10 ∷ []; rights = (r ∷ []) ∷ []; capabilities = [] }
+tenWords r = record { lengths = 10 ∷ []; gates = []; rights = (r ∷ []) ∷ []; capabilities = [] }
 
 -- a read capability on segment 3, words 4-7, the only one on that segment; its source, domain 1, may read and write there
 abbrev fourWords : Scene
 fourWords =
     record {
       lengths = 1 ∷ 1 ∷ 12 ∷ 12 ∷ [];
-      rights = (0 ∷ []) ∷ (0 ∷ 0 ∷ 3 ∷ 3 ∷ []) ∷ [];
+      gates = [];
+      rights = (4 ∷ []) ∷ (0 ∷ 0 ∷ 3 ∷ 3 ∷ []) ∷ [];
       capabilities = writeOn 2 0 12 1 ∷ readOn 3 4 4 1 ∷ [];
     }
 
 -- two read capabilities on the same words: the first's source, domain 1, has no R, the second's, domain 2, has it
 abbrev twoMatches : Scene
-twoMatches = record { lengths = 8 ∷ []; rights = (0 ∷ []) ∷ (2 ∷ []) ∷ (1 ∷ []) ∷ []; capabilities = readOn 0 4 4 1 ∷ readOn 0 4 4 2 ∷ [] }
+twoMatches = record { lengths = 8 ∷ []; gates = []; rights = (4 ∷ []) ∷ (2 ∷ []) ∷ (1 ∷ []) ∷ []; capabilities = readOn 0 4 4 1 ∷ readOn 0 4 4 2 ∷ [] }
 
--- read and write on the same words in two capabilities
+-- read and write on the same words in two capabilities; segment 1 is a gate
 abbrev readAndWrite : Scene
-readAndWrite = record { lengths = 8 ∷ []; rights = (0 ∷ []) ∷ (3 ∷ []) ∷ []; capabilities = readOn 0 4 4 1 ∷ writeOn 0 4 4 1 ∷ [] }
+readAndWrite =
+    record {
+      lengths = 7 ∷ 1 ∷ 8 ∷ [];
+      gates = 0 ∷ 1 ∷ [];
+      rights = (5 ∷ 8 ∷ []) ∷ (0 ∷ 0 ∷ 3 ∷ []) ∷ [];
+      capabilities = readOn 2 4 4 1 ∷ writeOn 2 4 4 1 ∷ [];
+    }
+
+-- CALL through that gate with one argument, words 4-7 of segment 2, that has this mode word; the list is at word 2
+abbrev callWith : ℕ → List ℕ
+callWith mode = 0x0800B001 ∷ 0x00001000 ∷ 1 ∷ 0 ∷ 0 ∷ 0x80002004 ∷ mode ∷ []
+
+-- a segment of n words that the domain may read and execute
+abbrev program : ℕ → Scene
+program n = record { lengths = n ∷ []; gates = []; rights = (5 ∷ []) ∷ []; capabilities = [] }
+
+-- an instruction, and a segment of 10 words on which the domain has the rights r
+abbrev tenBeside : ℕ → Scene
+tenBeside r = record { lengths = 1 ∷ 10 ∷ []; gates = []; rights = (4 ∷ r ∷ []) ∷ []; capabilities = [] }
 
 -- a row for each rights byte
 abbrev underRights : (ℕ → Row) → List Row
@@ -56,6 +76,23 @@ table =
     (reading fourWords (tagged 3 8) gives refuse 24) ∷
     (writing fourWords (tagged 3 5) gives refuse 24) ∷
     (reading twoMatches (tagged 0 5) gives refuse 25) ∷
-    (passing readAndWrite (tagged 0 4) 4 true true gives refuse 24) ∷
+    (passing readAndWrite (tagged 2 4) 4 true true gives refuse 24) ∷
+    (executing (program 1) 0 (untagged 0 0) (0x0C000FFF ∷ []) gives ok (4294967295 ∷ [])) ∷
+    (executing (program 2) 4294967295 (untagged 0 0) (0x03000001 ∷ 1 ∷ []) gives ok (0 ∷ [])) ∷
+    (executing (program 1) 0 (untagged 0 4095) (0x01000001 ∷ []) gives refuse 23) ∷
+    (executing (program 1) 0 (untagged 0 0) (0x01000FFF ∷ []) gives refuse 23) ∷
+    (executing (program 5) 0 (untagged 0 0) (0x0100A003 ∷ 0 ∷ 0 ∷ 4 ∷ 42 ∷ []) gives ok (42 ∷ [])) ∷
+    (executing (program 5) 0 (untagged 0 0) (0x0100A003 ∷ 0 ∷ 0 ∷ 0x00010000 ∷ []) gives refuse 26) ∷
+    (executing (program 5) 0 (untagged 0 0) (0x0100A003 ∷ 0 ∷ 0 ∷ 0x80001005 ∷ []) gives refuse 24) ∷
+    (executing (tenBeside 1) 0 (untagged 1 9) (0x01000000 ∷ replicate 9 0 ++ 77 ∷ []) gives ok (77 ∷ [])) ∷
+    (executing fourWords 0 (tagged 3 4) (0x01000000 ∷ replicate 17 0 ++ 77 ∷ []) gives ok (77 ∷ [])) ∷
+    (executing fourWords 0 (tagged 3 7) (0x01000000 ∷ replicate 20 0 ++ 77 ∷ []) gives ok (77 ∷ [])) ∷
+    (executing fourWords 0 (tagged 3 3) (0x01000000 ∷ []) gives refuse 24) ∷
+    (executing fourWords 0 (tagged 3 8) (0x01000000 ∷ []) gives refuse 24) ∷
+    (executing fourWords 0 (tagged 3 5) (0x02000000 ∷ []) gives refuse 24) ∷
+    (executing twoMatches 0 (tagged 0 5) (0x01000000 ∷ []) gives refuse 25) ∷
+    (executing readAndWrite 7 (untagged 0 2) (callWith 0xC0000004) gives refuse 24) ∷
+    (executing readAndWrite 7 (untagged 0 2) (callWith 0x40000004) gives ok (7 ∷ [])) ∷
+    underRights (λ r. executing (tenBeside r) 0 (untagged 1 10) (0x01000000 ∷ []) gives refuse 21) ++
     underRights (λ r. reading (tenWords r) (untagged 0 10) gives refuse 21) ++
     underRights (λ r. writing (tenWords r) (untagged 0 10) gives refuse 21)
