@@ -14,7 +14,7 @@ use Rattle.machine.specs.declared.flag.Flag.the-variants as flag
 use Rattle.machine.specs.declared.flag.Access.the-variants as access
 use Rattle.machine.specs.Flag.{has}
 use Rattle.machine.specs.Static.{exists, rightsOf, staticOf}
-use Rattle.machine.specs.Search.{coversOf, firstOf}
+use Rattle.capabilities.specs.Search.{coversOf, firstOf}
 use Rattle.machine.specs.Live.{liveMatch, sourced, liveOf}
 use Rattle.isolation.specs.Visible.{couldWrite}
 

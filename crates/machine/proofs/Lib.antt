@@ -1,5 +1,3 @@
-pub mod First
 pub mod Passes
 pub mod Places
 pub mod Rights
-pub mod Parts

@@ -15,7 +15,7 @@ use Rattle.machine.specs.declared.flag.Flag.{Flag}
 use Rattle.machine.specs.declared.flag.Access.{Access}
 use Rattle.machine.specs.Flag.{has, flagOf, isRead}
 use Rattle.machine.specs.Static.{staticOf, exists, rightsOf}
-use Rattle.machine.specs.Search.{firstOf, coversOf}
+use Rattle.capabilities.specs.Search.{firstOf, coversOf}
 use Rattle.machine.specs.Live.{liveMatch, sourced, liveOf}
 use Rattle.machine.specs.Reference.{verdictOf}
 

@@ -8,18 +8,16 @@ use mathlib.Core.Path.{_≡_, refl, sym, ap, _∙_, subst}
 use borrow.Author.Tests.{eqb-true}
 use lib.Dec.{eqb}
 use lib.ListN.{getD}
-use Rattle.words.specs.Answer.{refuse, ok, _>>_, require, if_then_else_}
+use Rattle.words.specs.Answer.{refuse, ok, if_then_else_}
 use Rattle.words.specs.declared.pointer.Pointer.{Pointer}
 use Rattle.state.specs.declared.record.Machine.{Machine}
 use Rattle.state.specs.Bases.{baseOf, basesOf, wordsIn}
 use Rattle.state.proofs.Sums.{base-apart, bases-at}
-use Rattle.soundness.specs.Sound.{soundTest}
-use Rattle.soundness.proofs.Facts.{sound-facts}
 use Rattle.machine.specs.declared.flag.Flag.{Flag}
 use Rattle.machine.specs.declared.flag.Access.{Access}
 use Rattle.machine.specs.Static.{exists}
 use Rattle.machine.specs.Reference.{indexOf, accept, locateOf, referenceOf}
-use Rattle.machine.specs.Machine.{staticCheck, check, judgedCheck}
+use Rattle.machine.specs.Machine.{staticCheck, check}
 use Rattle.machine.proofs.Passes.{exists-facts, static-exists, verdict-exists}
 
 -- the index of an existing word is below the sum of the lengths
@@ -70,12 +68,3 @@ unfolding check referenceOf
 check-lt m a p i e =
     let t = accepted _ _ i e in
     subst (λ (k : ℕ). k < wordsIn (m .layout .lengths)) (t .1) (index-lt _ (p .segment) (p .word) (verdict-exists _ _ _ _ _ a p (t .0)))
-
--- so below 8,192 where the record is judged first
-pub judged-lt : (m : Machine) (a : Access) (p : Pointer) (i : ℕ) → judgedCheck m a p ≡ ok i → i < 8192
-unfolding judgedCheck
-judged-lt m a p i e = by (soundTest m) refl e
-  where
-    by : (t : Bool) → soundTest m ≡ t → (require t 9 >> check m a p) ≡ ok i → i < 8192
-    by true q e = omega (arith, check-lt m a p i e, sound-facts m q .layout .words)
-    by false q e = absurd (let z : _≡_ {A = ℕ} 0 1 = cc in omega arith)

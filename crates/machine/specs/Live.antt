@@ -13,7 +13,7 @@ use Rattle.machine.specs.declared.live.SourceAnswer.{SourceAnswer}
 use Rattle.machine.specs.declared.live.SourceAnswer.the-variants as variant
 use Rattle.machine.specs.Flag.{flagOf, isRead}
 use Rattle.machine.specs.Static.{staticOf}
-use Rattle.machine.specs.Search.{coversOf, firstOf}
+use Rattle.capabilities.specs.Search.{coversOf, firstOf}
 
 -- the first capability of the live frame that fits; 24 without a frame
 unfoldable pub liveMatch : ℕ → Frame → (Capability → Bool) → Answer Capability

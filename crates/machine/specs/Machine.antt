@@ -1,12 +1,10 @@
 -- The checks of a machine's references.
 use Prim.Native.Nat.{ℕ}
-use Rattle.words.specs.Answer.{Answer, _>>_, require}
-use Rattle.words.specs.Numbers.{notSound}
+use Rattle.words.specs.Answer.{Answer}
 use Rattle.words.specs.declared.pointer.Pointer.{Pointer}
 use Rattle.state.specs.declared.record.Machine.{Machine}
 use Rattle.state.specs.Record.{inUse, liveFrame}
 use Rattle.state.specs.Bases.{basesOf}
-use Rattle.soundness.specs.Sound.{soundTest}
 use Rattle.machine.specs.declared.flag.Flag.{Flag}
 use Rattle.machine.specs.declared.flag.Access.{Access}
 use Rattle.machine.specs.Reference.{locateOf, referenceOf}
@@ -20,10 +18,3 @@ staticCheck m domain flag segment word =
 unfoldable pub check : Machine → Access → Pointer → Answer ℕ
 check m access p =
     referenceOf (m .layout .lengths) (m .layout .rights) (basesOf (m .layout .lengths)) (m .registers .domain) (inUse (m .depth)) (liveFrame (m .depth) (m .frames)) access p
-
--- the same checks where any record may be lent: 9 for one that is not sound
-unfoldable pub judgedStatic : Machine → ℕ → Flag → ℕ → ℕ → Answer ℕ
-judgedStatic m domain flag segment word = require (soundTest m) notSound >> staticCheck m domain flag segment word
-
-unfoldable pub judgedCheck : Machine → Access → Pointer → Answer ℕ
-judgedCheck m access p = require (soundTest m) notSound >> check m access p

@@ -4,9 +4,9 @@ ghost use Rattle.machine.specs.Live.{liveOf, passedOf, sourceAnswer};
 ghost use Rattle.machine.specs.Flag.{isRead};
 use crate::flag::Access;
 use crate::flag::asked;
-use crate::search::CapabilityAnswer;
-use crate::search::search;
 use crate::statics::static_check;
+use capabilities::CapabilityAnswer;
+use capabilities::search;
 use state::record::Frame;
 
 // What passing an argument on gives: the source of the capability that covers it, or the refusal 24.

@@ -5,8 +5,8 @@ pub mod write_image;
 
 ghost use mathlib.Core.Path.{_≡_};
 ghost use Rattle.probe.specs.Check.{accessOf, checkOf};
+use checks::reference::check_reference;
 use machine::flag::Access;
-use machine::machine::check_reference;
 use machine::reference::IndexAnswer;
 use snapshot::read::record_of;
 use words::pointer::Pointer;

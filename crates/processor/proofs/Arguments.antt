@@ -17,7 +17,7 @@ use Rattle.state.specs.declared.record.Capability.{Capability}
 use Rattle.state.specs.declared.record.Frame.{Frame}
 use Rattle.state.specs.Record.{noCapability}
 use Rattle.soundness.proofs.Facts.{PointerSound, CapabilitySound}
-use Rattle.machine.specs.Search.{firstOf, coversOf}
+use Rattle.capabilities.specs.Search.{firstOf, coversOf}
 use Rattle.machine.specs.Live.{liveMatch, passedOf}
 use Rattle.crossings.specs.ArgumentList.{sourceOf, capabilityOf}
 use Rattle.processor.proofs.Says.{Says, says-bind, says-if}

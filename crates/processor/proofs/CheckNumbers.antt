@@ -24,7 +24,7 @@ use Rattle.machine.specs.declared.flag.Access.{Access}
 use Rattle.machine.specs.declared.flag.Access.the-variants as access
 use Rattle.machine.specs.Flag.{has, flagOf, isRead}
 use Rattle.machine.specs.Static.{exists, rightsOf, staticOf}
-use Rattle.machine.specs.Search.{firstOf, coversOf}
+use Rattle.capabilities.specs.Search.{firstOf, coversOf}
 use Rattle.machine.specs.Live.{liveMatch, sourced, liveOf}
 use Rattle.machine.specs.Reference.{accept, indexOf, verdictOf, locateOf, referenceOf}
 use Rattle.machine.specs.Machine.{check}

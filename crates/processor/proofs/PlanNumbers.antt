@@ -20,7 +20,7 @@ use Rattle.state.specs.Record.{noPointer, noCapability}
 use Rattle.machine.specs.declared.flag.Flag.the-variants as flag
 use Rattle.machine.specs.Flag.{has}
 use Rattle.machine.specs.Static.{exists, rightsOf, staticOf}
-use Rattle.machine.specs.Search.{coversOf}
+use Rattle.capabilities.specs.Search.{coversOf}
 use Rattle.machine.specs.Live.{liveMatch, passedOf}
 use Rattle.instructions.specs.Reader.{Reader}
 use Rattle.instructions.specs.Effective.{displacedBy, throughOf, effectiveOf}

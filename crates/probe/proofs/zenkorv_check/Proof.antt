@@ -3,7 +3,7 @@ use native.Mathlib.Omega.{arith}
 use mathlib.Core.Path.{sym, ap, _∙_}
 use borrow.Author.Needs.{needs}
 use Rattle.machine.specs.Reference.{indexAnswer}
-use Rattle.machine.proofs.Places.{judged-lt}
+use Rattle.checks.proofs.Judged.{judged-lt}
 use Rattle.probe.specs.Check.{checkOf}
 use Rattle.probe.proofs.zenkorv_check.Statement.{statement}
 use Rattle.probe.proofs.zenkorv_check.Tie as tie

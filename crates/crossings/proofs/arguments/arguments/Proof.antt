@@ -5,7 +5,7 @@ use mathlib.Core.Path.{_≡_, refl, sym, ap, _∙_}
 use borrow.Author.Needs.{needs}
 use lib.ListN.{replicate}
 use Rattle.state.specs.Record.{noCapability}
-use Rattle.machine.specs.Search.{capabilityAnswer}
+use Rattle.capabilities.specs.Search.{capabilityAnswer}
 use Rattle.instructions.specs.Reader.{Reader, readOf}
 use Rattle.crossings.specs.ArgumentList.{argumentsFrom}
 use Rattle.crossings.proofs.Rest.{all-rest, refused-rest, taken-rest, no-rest}

@@ -1,0 +1,48 @@
+-- `checks::reference::check_reference` meets its contract.
+use borrow.Author.Needs.{needs}
+use Rattle.soundness.proofs.Tests.{answered-true, answered-false}
+use Rattle.machine.specs.Machine.{check}
+use Rattle.checks.specs.Judged.{judgedCheck}
+use Rattle.checks.proofs.reference.check_reference.Statement.{statement}
+use Rattle.checks.proofs.reference.check_reference.Tie as tie
+
+sound-requires : tie.Need-sound-requires
+sound-requires c κs = search needs
+
+returns : tie.Need-returns
+unfolding judgedCheck
+returns c = simp (answered-false (c .before .sound .ensures) (c .if1 .taken))
+
+bases-requires : tie.Need-bases-requires
+bases-requires c κs = search needs
+
+live-frame-requires : tie.Need-live-frame-requires
+live-frame-requires c κs = search needs
+
+in-use-requires : tie.Need-in-use-requires
+in-use-requires c κs = search needs
+
+reference-requires : tie.Need-reference-requires
+reference-requires c κs = search needs
+
+returns-2 : tie.Need-returns-2
+unfolding judgedCheck check
+returns-2 c =
+    let u = c .before in
+    let l = u .before .before .before .before .before in
+    let b = l .before .before in
+    let e = b .before .before .before in
+    simp (answered-true (e .before .sound .ensures) (e .if1 .left))
+    (rw (b .bases .ensures, l .live-frame .ensures, u .in-use .ensures .0) at (c .reference .ensures))
+
+pub check-reference-spec : {M : Type 1} → statement M
+check-reference-spec =
+    tie.close
+    (tie.spec
+    sound-requires
+    returns
+    bases-requires
+    live-frame-requires
+    in-use-requires
+    reference-requires
+    returns-2)

@@ -1,0 +1,35 @@
+// The check of a reference by the executing domain, on a whole record.
+ghost use mathlib.Core.Path.{_≡_};
+ghost use Rattle.machine.specs.Reference.{indexAnswer};
+ghost use Rattle.checks.specs.Judged.{judgedCheck};
+use machine::flag::Access;
+use machine::reference::IndexAnswer;
+use machine::reference::reference;
+use soundness::sound;
+use state::bases::bases;
+use state::frames::in_use;
+use state::frames::live_frame;
+use state::record::Machine;
+use words::pointer::Pointer;
+
+// The check of a reference by the executing domain, live for a tagged pointer, static for another; 9 for a record that is not sound.
+pub fn check_reference(m: Machine, access: Access, p: Pointer) -> IndexAnswer
+    ensures { λ r. ⌜ indexAnswer r ≡ judgedCheck m access p ⌝ }
+{
+    if !sound(m) {
+        return IndexAnswer::Refused(9);
+    }
+    let places = bases(&m.layout.lengths);
+    let frames = m.frames;
+    let frame = live_frame(frames, m.depth);
+    reference(
+        &m.layout.lengths,
+        &m.layout.rights,
+        &places,
+        m.registers.domain,
+        in_use(m.depth),
+        frame,
+        access,
+        p,
+    )
+}

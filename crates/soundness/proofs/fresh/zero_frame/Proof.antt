@@ -1,0 +1,10 @@
+-- `soundness::fresh::zero_frame` meets its contract.
+use mathlib.Core.Path.{refl}
+use Rattle.soundness.proofs.fresh.zero_frame.Statement.{statement}
+use Rattle.soundness.proofs.fresh.zero_frame.Tie as tie
+
+returns : tie.Need-returns
+returns c = refl
+
+pub zero-frame-spec : {M : Type 1} → statement M
+zero-frame-spec = tie.close (tie.spec returns)
