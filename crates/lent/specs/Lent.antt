@@ -1,0 +1,14 @@
+-- The answers of the calls by reference, with the record and the words that they leave.
+use Prim.Native.Nat.{ℕ}
+use mathlib.Core.List.{List}
+use Rattle.state.specs.declared.record.Machine.{Machine}
+use Rattle.processor.specs.Run.{Ran, ran, Step}
+use Rattle.processor.specs.Rest.{endAnswer}
+use Rattle.lent.specs.declared.StepResult.{StepResult}
+use Rattle.lent.specs.declared.RunResult.{RunResult}
+
+abbrev pub lentStep : Machine → List ℕ → StepResult → Step
+lentStep m words r = record { machine = m; words = words; number = r .number; halted = r .halted }
+
+abbrev pub lentRan : Machine → List ℕ → RunResult → Ran
+lentRan m words r = ran m words (r .count) (endAnswer (r .end))

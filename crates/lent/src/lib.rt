@@ -1,0 +1,53 @@
+// The calls on a machine whose record is lent. Any record and any memory may be lent.
+ghost use mathlib.Core.Path.{_≡_};
+ghost use Rattle.processor.specs.Run.{stepCall, runCall, stretchCall};
+ghost use Rattle.lent.specs.Lent.{lentStep, lentRan};
+use processor::outcome::End;
+use state::record::Machine;
+
+// The number of a refusal or a fault; 0 for a completed instruction.
+pub struct StepResult {
+    pub number: u8,
+    pub halted: bool,
+}
+
+pub struct RunResult {
+    pub count: u16,
+    pub end: End,
+}
+
+// One instruction.
+pub fn step(m: &mut Machine, words: &mut [u32]) -> StepResult
+    ensures { λ r. ⌜ lentStep (now (m .exit)) (now (words .exit)) r ≡ stepCall (now (m .entry)) (now (words .entry)) ⌝ }
+{
+    let s = processor::run::step(*m, words);
+    *m = s.machine;
+    StepResult {
+        number: s.number,
+        halted: s.halted,
+    }
+}
+
+// At most limit instructions.
+pub fn run(m: &mut Machine, words: &mut [u32], limit: u16) -> RunResult
+    ensures { λ r. ⌜ lentRan (now (m .exit)) (now (words .exit)) r ≡ runCall limit (now (m .entry)) (now (words .entry)) ⌝ }
+{
+    let o = processor::run::run(*m, words, limit);
+    *m = o.machine;
+    RunResult {
+        count: o.count,
+        end: o.end,
+    }
+}
+
+// At most limit instructions, up to and with the first completed crossing.
+pub fn stretch(m: &mut Machine, words: &mut [u32], limit: u16) -> RunResult
+    ensures { λ r. ⌜ lentRan (now (m .exit)) (now (words .exit)) r ≡ stretchCall limit (now (m .entry)) (now (words .entry)) ⌝ }
+{
+    let o = processor::run::stretch(*m, words, limit);
+    *m = o.machine;
+    RunResult {
+        count: o.count,
+        end: o.end,
+    }
+}

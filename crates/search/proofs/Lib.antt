@@ -1,0 +1,4 @@
+pub mod Asked
+pub mod Front
+pub mod Passed
+pub mod Rules
