@@ -1,0 +1,2 @@
+pub mod ImageRun
+pub mod Entry
