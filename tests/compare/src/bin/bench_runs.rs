@@ -137,16 +137,25 @@ fn bench(name: &str, image: &[u8]) {
     for _ in 0..ROUNDS {
         let (library, record, words) = by_library(image);
         let (reference, other, others) = by_reference(image);
-        assert!(record == other && words == others, "{name}: the final states differ");
+        assert!(
+            record == other && words == others,
+            "{name}: the final states differ"
+        );
         best = [best[0].min(library), best[1].min(reference)];
     }
     let [library, reference] = best;
-    println!("{name:6} {library:8.2} {reference:10.2} {:7.2}", library / reference);
+    println!(
+        "{name:6} {library:8.2} {reference:10.2} {:7.2}",
+        library / reference
+    );
 }
 
 fn main() {
     assert!(machine_from_bytes(&record_bytes(&Machine::default())).is_some());
-    println!("ns an instruction, best of {ROUNDS}, {} instructions a round", CALLS * usize::from(LIMIT));
+    println!(
+        "ns an instruction, best of {ROUNDS}, {} instructions a round",
+        CALLS * usize::from(LIMIT)
+    );
     println!("       library  reference   ratio");
     bench("plain", &plain_loop());
     bench("calls", &call_loop());
