@@ -2,3 +2,4 @@ pub mod Answers
 pub mod Accesses
 pub mod Transfers
 pub mod Turns
+pub mod Registers

@@ -54,10 +54,13 @@ pub fn go_to(r: Registers, p: Pointer, event: Event) -> Turn
 pub fn stay(r: Registers, event: Event) -> Turn
     ensures { λ t. ⌜ t ≡ record { registers = r; event = event } ⌝ }
 {
-    Turn {
-        registers: r,
-        event,
-    }
+    let registers = Registers {
+        a: r.a,
+        word: r.word,
+        segment: r.segment,
+        domain: r.domain,
+    };
+    Turn { registers, event }
 }
 
 // What LOAD, ADD and SUB make of A and a word.

@@ -5,7 +5,7 @@ ghost use Rattle.state.specs.Record.{noPointer};
 ghost use Rattle.instructions.specs.Instruction.{stackOf, withBase};
 use words::pointer::Pointer;
 
-// Register k; a register that does not exist holds nothing.
+// Register k; a register that does not exist holds nothing. Constant indexes, so that the registers need not be copied.
 pub fn pointer_at(pointers: [Pointer; 8], k: u8) -> Pointer
     ensures { λ r. ⌜ r ≡ getD pointers k noPointer ⌝ }
 {
@@ -16,8 +16,16 @@ pub fn pointer_at(pointers: [Pointer; 8], k: u8) -> Pointer
             tag: false,
         };
     }
-    let i = k as usize;
-    pointers[i]
+    match k {
+        0 => pointers[0],
+        1 => pointers[1],
+        2 => pointers[2],
+        3 => pointers[3],
+        4 => pointers[4],
+        5 => pointers[5],
+        6 => pointers[6],
+        _ => pointers[7],
+    }
 }
 
 // The registers with p in register k.
@@ -28,8 +36,16 @@ pub fn with_pointer(pointers: [Pointer; 8], k: u8, p: Pointer) -> [Pointer; 8]
     if 8 <= k {
         return next;
     }
-    let i = k as usize;
-    next[i] = p;
+    match k {
+        0 => next[0] = p,
+        1 => next[1] = p,
+        2 => next[2] = p,
+        3 => next[3] = p,
+        4 => next[4] = p,
+        5 => next[5] = p,
+        6 => next[6] = p,
+        _ => next[7] = p,
+    }
     next
 }
 

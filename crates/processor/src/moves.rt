@@ -55,7 +55,13 @@ pub fn make_moves<'a>(
         let event = t.event;
         match event {
             Event::Moved => {
-                registers = t.registers;
+                let next = t.registers;
+                registers = Registers {
+                    a: next.a,
+                    word: next.word,
+                    segment: next.segment,
+                    domain: next.domain,
+                };
                 n += 1;
             }
             Event::Pointed(i, p) => {

@@ -8,7 +8,7 @@ use crate::outcome::End;
 use crate::outcome::Outcome;
 use crate::rest::rest;
 use state::bases::bases;
-use state::frames::live_frame;
+use state::frames::live_row;
 use state::record::Frame;
 use state::record::Layout;
 use state::record::Machine;
@@ -54,7 +54,8 @@ pub fn run_on(m: Machine, words: &mut [u32], limit: u16, stretch: bool) -> Outco
     let mut depth = m.depth;
     let mut n = 0u16;
     loop {
-        let frame = live_frame(frames, depth);
+        let live = live_row(depth);
+        let frame = frames[live];
         let t = make_moves(
             &layout.lengths,
             &layout.gates,

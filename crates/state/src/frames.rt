@@ -1,6 +1,6 @@
 // The frames of a record.
 ghost use mathlib.Core.Path.{_≡_};
-ghost use Prim.Native.Nat.{_≤_};
+ghost use Prim.Native.Nat.{_≤_, _<_, _-_};
 ghost use Rattle.state.specs.Record.{inUse, liveFrame};
 use crate::record::Frame;
 
@@ -9,6 +9,17 @@ pub fn in_use(depth: u8) -> u8
     ensures { λ r. ⌜ (r ≡ inUse depth) × (r ≤ 8) ⌝ }
 {
     if depth <= 8 { depth } else { 0 }
+}
+
+// The row of the newest frame in use, the live frame; row 0 where none is in use.
+pub fn live_row(depth: u8) -> usize
+    ensures { λ r. ⌜ (r ≡ inUse depth - 1) × (r < 8) ⌝ }
+{
+    let n = in_use(depth);
+    if n == 0 {
+        return 0;
+    }
+    (n - 1) as usize
 }
 
 // The newest frame in use, the live frame; frame 0 where none is in use.
