@@ -3,7 +3,8 @@
 //!
 //! One loop has twelve plain instructions, among them a reference through the
 //! sixth capability of the live frame; the other has eight, among them a call
-//! through a gate with two arguments and a return across domains.
+//! through a gate with two arguments and a return across domains. An argument
+//! (plain or calls) asks for one of them.
 
 use assembler::*;
 use compare::library;
@@ -157,6 +158,10 @@ fn main() {
         CALLS * usize::from(LIMIT)
     );
     println!("       library  reference   ratio");
-    bench("plain", &plain_loop());
-    bench("calls", &call_loop());
+    let only = std::env::args().nth(1);
+    for (name, image) in [("plain", plain_loop()), ("calls", call_loop())] {
+        if only.as_ref().is_none_or(|only| only == name) {
+            bench(name, &image);
+        }
+    }
 }
