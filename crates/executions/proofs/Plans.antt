@@ -22,8 +22,8 @@ use Rattle.instructions.specs.Reader.{Reader}
 use Rattle.instructions.specs.Effective.{effectiveOf}
 use Rattle.instructions.specs.Plan.{Plan, halt, move, store, enter, leave}
 use Rattle.instructions.specs.Instruction.{jumpOf, callWay, callOf, returnOf, loadOf, branchOf, isLoad, isStore, takenOf, effectOf, executeOf, planOf, jumpCheck, gatesOf, withBase, stackOf}
-use Rattle.processor.proofs.Says.{Says, says-bind, says-then, says-if, says-accept}
-use Rattle.processor.proofs.Pointers.{BaseLt, base-lt, effective-sound}
+use Rattle.executions.proofs.Says.{Says, says-bind, says-then, says-if, says-accept}
+use Rattle.executions.proofs.Pointers.{BaseLt, base-lt, effective-sound}
 
 -- a segment, a word and pointers to go on with
 pub record Placed (s w : ℕ) (ps : List Pointer) : Type 0 where

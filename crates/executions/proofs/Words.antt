@@ -17,11 +17,11 @@ use Rattle.machine.proofs.Places.{check-lt}
 use Rattle.instructions.specs.Reader.{Reader, readWord, fetch}
 use Rattle.instructions.specs.Plan.{Plan, halt, move, store, enter, leave}
 use Rattle.crossings.specs.Crossing.{enterOf, leaveOf, entered, left}
 use Rattle.processor.specs.Step.{Act, stop, proceed, put, cross, Done, resolve, decide, commit, execute}
 use Rattle.processor.specs.Run.{runFrom}
-use Rattle.processor.proofs.Parts.{live, planned, frameFor, leaveNumber}
-use Rattle.processor.proofs.Says.{Says, itself, said, says-bind, says-then, says-accept}
-use Rattle.processor.proofs.Runs.{run-keeps}
+use Rattle.executions.proofs.Parts.{live, planned, frameFor, leaveNumber}
+use Rattle.executions.proofs.Says.{Says, itself, said, says-bind, says-then, says-accept}
+use Rattle.executions.proofs.Runs.{run-keeps}
 
 -- a record and words that came of those of a start
 pub record Came (l : Layout) (words : List ℕ) (n : Machine) (now : List ℕ) : Type 0 where

@@ -27,8 +27,8 @@ use Rattle.instructions.specs.Effective.{displacedBy, throughOf, effectiveOf}
 use Rattle.instructions.specs.Plan.{enter, leave}
 use Rattle.instructions.specs.Instruction.{jumpOf, callWay, callOf, returnOf, loadOf, branchOf, isLoad, isStore, takenOf, effectOf, executeOf, planOf, jumpCheck, gatesOf}
 use Rattle.crossings.specs.ArgumentList.{listWord, listPointer, sourceOf, capabilityOf, argumentOf, argumentsFrom, frameAfter, frameOf}
-use Rattle.processor.proofs.Fails.{Fails, judged-if, fails-require, fails-if, fails-accept, fails-bind, fails-past}
-use Rattle.processor.proofs.CheckNumbers.{static-judged, match-fails, pointer-fails, instruction-fails, mode-fails, moved-fails}
+use Rattle.executions.proofs.Fails.{Fails, judged-if, fails-require, fails-if, fails-accept, fails-bind, fails-past}
+use Rattle.executions.proofs.CheckNumbers.{static-judged, match-fails, pointer-fails, instruction-fails, mode-fails, moved-fails}
 
 -- plans and frames, with a reader whose refusals are faults
 module _ (read : Reader) (reads : (p : Pointer) → Fails (read p)) where

@@ -18,7 +18,7 @@ use Rattle.state.specs.Record.{noPointer}
 use Rattle.soundness.proofs.Facts.{PointerSound, PointersSound}
 use Rattle.instructions.specs.Reader.{Reader}
 use Rattle.instructions.specs.Effective.{displacedBy, throughOf, effectiveOf}
-use Rattle.processor.proofs.Says.{Says, says-bind, says-then, says-skip, says-require, says-if}
+use Rattle.executions.proofs.Says.{Says, says-bind, says-then, says-skip, says-require, says-if}
 
 -- the pointer in a word
 pub word-pointer : (w : ℕ) → Says PointerSound (pointerOf w)

@@ -21,9 +21,9 @@ use Rattle.soundness.proofs.Facts.{PointerSound, CapabilitySound, FrameSound}
 use Rattle.instructions.specs.Reader.{Reader}
 use Rattle.instructions.specs.Effective.{displacedBy}
 use Rattle.crossings.specs.ArgumentList.{listWord, listPointer, capabilityOf, argumentOf, argumentsFrom, listCapability, filledOf, frameAfter, frameOf}
-use Rattle.processor.proofs.Says.{Says, says-bind, says-past, says-then, says-require}
-use Rattle.processor.proofs.Pointers.{word-pointer, moved-most}
-use Rattle.processor.proofs.Arguments.{LiveSound, capability-sound}
+use Rattle.executions.proofs.Says.{Says, says-bind, says-past, says-then, says-require}
+use Rattle.executions.proofs.Pointers.{word-pointer, moved-most}
+use Rattle.executions.proofs.Arguments.{LiveSound, capability-sound}
 
 -- nine rows, of which the first n are capabilities and the others zero
 record RowsSound (domains n : ℕ) (rows : List Capability) : Type 0 where

@@ -20,13 +20,13 @@ use Rattle.machine.proofs.Passes.{static-exists, exists-facts}
 use Rattle.instructions.specs.Reader.{Reader, readWord, fetch, fetchOf}
 use Rattle.instructions.specs.Plan.{Plan, halt, move, store, enter, leave}
 use Rattle.crossings.specs.Crossing.{enterOf, leaveOf}
 use Rattle.processor.specs.Step.{Act, stop, proceed, put, cross, Done, movedTo, resolve, decide, commit, execute}
 use Rattle.processor.specs.Run.{runFrom}
-use Rattle.processor.proofs.Says.{Says, said, says-bind, says-then, says-accept}
-use Rattle.processor.proofs.Runs.{run-keeps}
-use Rattle.processor.proofs.Parts.{planned}
-use Rattle.processor.proofs.Plans.{Placed, PlanSound, plan-sound}
-use Rattle.processor.proofs.Crossings.{Whole, stack-most, enter-whole, leave-whole}
+use Rattle.executions.proofs.Says.{Says, said, says-bind, says-then, says-accept}
+use Rattle.executions.proofs.Runs.{run-keeps}
+use Rattle.executions.proofs.Parts.{planned}
+use Rattle.executions.proofs.Plans.{Placed, PlanSound, plan-sound}
+use Rattle.executions.proofs.Crossings.{Whole, stack-most, enter-whole, leave-whole}
 
 module _ (m : Machine) (w : Whole m) where
   abbrev s : Sound m

@@ -20,7 +20,7 @@ use Rattle.soundness.proofs.Facts.{PointerSound, CapabilitySound}
 use Rattle.capabilities.specs.Search.{firstOf, coversOf}
 use Rattle.machine.specs.Live.{liveMatch, passedOf}
 use Rattle.crossings.specs.ArgumentList.{sourceOf, capabilityOf}
-use Rattle.processor.proofs.Says.{Says, says-bind, says-if}
+use Rattle.executions.proofs.Says.{Says, says-bind, says-if}
 
 -- a mode word for an argument that starts at a word number
 record ModeSound (start : ℕ) (m : Mode) : Type 0 where

@@ -22,11 +22,11 @@ use Rattle.machine.proofs.Passes.{both, static-exists}
 use Rattle.instructions.specs.Reader.{Reader}
 use Rattle.instructions.specs.Instruction.{gateDomainOf, stackOf}
 use Rattle.crossings.specs.Crossing.{tagged, withTag, freeFrame, entered, left, samePlace, leaveCheck, enterOf, leaveOf}
-use Rattle.processor.proofs.Says.{Says, says-bind, says-accept}
-use Rattle.processor.proofs.Plans.{base-sound, exists-sound}
-use Rattle.processor.proofs.Arguments.{LiveSound}
-use Rattle.processor.proofs.Frames.{frame-sound}
-use Rattle.processor.proofs.Parts.{live, frameFor, leaveNumber}
+use Rattle.executions.proofs.Says.{Says, says-bind, says-accept}
+use Rattle.executions.proofs.Plans.{base-sound, exists-sound}
+use Rattle.executions.proofs.Arguments.{LiveSound}
+use Rattle.executions.proofs.Frames.{frame-sound}
+use Rattle.executions.proofs.Parts.{live, frameFor, leaveNumber}
 
 -- a sound machine with its eight rows of frames
 pub record Whole (m : Machine) : Type 0 where

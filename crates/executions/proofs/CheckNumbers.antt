@@ -30,8 +30,8 @@ use Rattle.machine.specs.Reference.{accept, indexOf, verdictOf, locateOf, refer
 use Rattle.machine.specs.Machine.{check}
 use Rattle.instructions.specs.Reader.{readOf, fetchOf, readWord, fetch}
 use Rattle.instructions.specs.Effective.{displacedBy}
-use Rattle.processor.proofs.Parts.{live}
-use Rattle.processor.proofs.Fails.{Fails, Judged, passes, judged-if, fails-require, fails-if, fails-accept, fails-bind, fails-past}
+use Rattle.executions.proofs.Parts.{live}
+use Rattle.executions.proofs.Fails.{Fails, Judged, passes, judged-if, fails-require, fails-if, fails-accept, fails-bind, fails-past}
 
 -- the checks
 pub static-judged : (lengths rights : List ℕ) (d : ℕ) (f : Flag) (s w : ℕ) → Judged (staticOf lengths rights d f s w)

@@ -17,13 +17,13 @@ use Rattle.machine.specs.Machine.{check}
 use Rattle.instructions.specs.Reader.{Reader, readWord, fetch}
 use Rattle.instructions.specs.Plan.{Plan, halt, move, store, enter, leave}
 use Rattle.crossings.specs.Crossing.{left, samePlace, leaveCheck, enterOf, leaveOf}
 use Rattle.processor.specs.Step.{Act, stop, proceed, put, cross, resolve, decide, commit, execute}
 use Rattle.processor.specs.Run.{faulted, runFrom, judged, stepped, stepCall}
-use Rattle.processor.proofs.Faults.{run-faulted}
-use Rattle.processor.proofs.Parts.{live, planned, frameFor, leaveNumber}
-use Rattle.processor.proofs.Fails.{Fault, Fails, judged-if, fails-accept, refused, fails-bind}
-use Rattle.processor.proofs.CheckNumbers.{static-judged, check-fails, read-fails, fetch-fails}
-use Rattle.processor.proofs.PlanNumbers.{plan-fails, frame-fails}
+use Rattle.executions.proofs.Faults.{run-faulted}
+use Rattle.executions.proofs.Parts.{live, planned, frameFor, leaveNumber}
+use Rattle.executions.proofs.Fails.{Fault, Fails, judged-if, fails-accept, refused, fails-bind}
+use Rattle.executions.proofs.CheckNumbers.{static-judged, check-fails, read-fails, fetch-fails}
+use Rattle.executions.proofs.PlanNumbers.{plan-fails, frame-fails}
 
 -- a step of any machine
 module _ (m : Machine) (words : List ℕ) where

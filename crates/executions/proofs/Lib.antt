@@ -1,0 +1,16 @@
+pub mod Stretches
+pub mod Faults
+pub mod Runs
+pub mod Says
+pub mod Parts
+pub mod Words
+pub mod Pointers
+pub mod Plans
+pub mod Arguments
+pub mod Frames
+pub mod Crossings
+pub mod Sound
+pub mod Fails
+pub mod CheckNumbers
+pub mod PlanNumbers
+pub mod Numbers
