@@ -15,8 +15,8 @@ use Rattle.image.specs.Segment.{allWords}
 use Rattle.image.specs.Image.{Image, imageOf, layoutOf}
 use Rattle.image.specs.Reader.{readOf, machineAfter, memoryAfter}
 use Rattle.image.specs.declared.reader.ReadAnswer.{ReadAnswer}
-use Rattle.image.proofs.Accepted.{accepted}
-use Rattle.image.proofs.AcceptedSound.{accepted-sound}
+use Rattle.roundtrips.proofs.Accepted.{accepted}
+use Rattle.roundtrips.proofs.AcceptedSound.{accepted-sound}
 use Rattle.entry.specs.ImageRun.{Final, finalOf, memoryOf, machineRun, imageRun, emptyMachine, closed}
 use Rattle.entry.proofs.Refusals.{image-number}
 

@@ -14,13 +14,3 @@ pub mod Stores
 pub mod Judged
 pub mod Written
 pub mod Sizes
-pub mod Good
-pub mod Accepted
-pub mod AcceptedSound
-pub mod ReadBack
-pub mod WriteBack
-pub mod LayoutBack
-pub mod LayoutForth
-pub mod RoundTrips
-pub mod Longest
-pub mod Examples

@@ -11,20 +11,20 @@ use borrow.Author.Tests.{ltb-true, ltb-false, eqb-true}
 use Rattle.words.specs.Answer.{ok}
 use Rattle.words.specs.PointerWord.{pointerWord}
 use Rattle.words.proofs.RoundTrips.{pack-unpacked}
 use Rattle.image.specs.Bytes.{pairOf, pairBytes, wordOf, wordBytes, wordsOf, wordsBytes, joined}
 use Rattle.image.specs.Chunk.{Read, chunkOf, exactly, chunkBytes}
 use Rattle.image.specs.Head.{headBytes, startWord}
 use Rattle.image.specs.Segment.{Segment, wordCount, segmentOf, segmentsOf, segmentBytes, segmentsBytes}
 use Rattle.image.specs.Domain.{Domain, domainOf, domainsOf, domainBytes, domainsBytes}
 use Rattle.image.specs.Image.{Image, endOf, imageOf, bytesOf}
 use Rattle.image.specs.declared.head.Head.{Head}
 use Rattle.image.proofs.Answers.{test, bound}
 use Rattle.image.proofs.Bodies.{body-length}
 use Rattle.image.proofs.Chunks.{chunk-facts, exact-size}
 use Rattle.image.proofs.Segments.{segment-facts}
 use Rattle.image.proofs.Images.{image-facts, head-facts, HeadRead, segments-facts, segments-end, segments-count, domains-facts, domains-end, domains-count}
-use Rattle.image.proofs.Good.{domain-facts}
-use Rattle.image.proofs.ReadBack.{Below}
+use Rattle.roundtrips.proofs.Good.{domain-facts}
+use Rattle.roundtrips.proofs.ReadBack.{Below}
 
 pub below-drop : (n m : ℕ) (xs : List ℕ) → Below n xs → Below n (drop m xs)
 below-drop n m xs b k = rw (getD-drop m xs k 0) (b (m + k))

@@ -15,14 +15,14 @@ use Rattle.soundness.specs.Fresh.{freshOf}
 use Rattle.soundness.proofs.Tests.{join, inside, both, either-part}
 use Rattle.soundness.proofs.All.{all}
 use Rattle.soundness.proofs.FreshSound.{fresh-sound}
 use Rattle.image.specs.Bytes.{joined}
 use Rattle.image.specs.Segment.{Segment, allWords}
 use Rattle.image.specs.Domain.{Domain, allRights}
 use Rattle.image.specs.Image.{Image, imageOf, layoutOf, padded, allRows}
 use Rattle.image.specs.Rows.{lengthsOf, gatesOf, gatedomainsOf, stacksOf}
 use Rattle.image.proofs.Padded.{padded-length}
-use Rattle.image.proofs.Good.{All, all-at, Good, GoodSegment, GoodDomain}
-use Rattle.image.proofs.Accepted.{accepted}
+use Rattle.roundtrips.proofs.Good.{All, all-at, Good, GoodSegment, GoodDomain}
+use Rattle.roundtrips.proofs.Accepted.{accepted}
 
 abbrev pub noSegment : Segment
 noSegment = record { gates = 0; domain = 0; words = [] }

@@ -8,15 +8,15 @@ use lib.ListN.{length, getD, take, drop, replicate, length-append}
 use lib.Seq.{ext-getD, split-at, take-suc, take-at, drop-at, length-take-le}
 use Rattle.state.specs.Bases.{baseOf}
 use Rattle.state.proofs.Sums.{base-next, base-zero}
 use Rattle.image.specs.Bytes.{joined}
 use Rattle.image.specs.Segment.{Segment, allWords}
 use Rattle.image.specs.Domain.{Domain}
 use Rattle.image.specs.Image.{Image, layoutOf, padded, allRows, rowsFrom, segmentAt, domainAt, imageFrom}
 use Rattle.image.specs.Rows.{lengthsOf, gatesOf, gatedomainsOf, stacksOf}
 use Rattle.image.proofs.Joined.{joined-append, joined-snoc, rows-length}
-use Rattle.image.proofs.Good.{All, all-at, Good, GoodDomain}
-use Rattle.image.proofs.AcceptedSound.{noSegment, noDomain, map-at, rows-size}
-use Rattle.image.proofs.LayoutBack.{rows-at}
+use Rattle.roundtrips.proofs.Good.{All, all-at, Good, GoodDomain}
+use Rattle.roundtrips.proofs.AcceptedSound.{noSegment, noDomain, map-at, rows-size}
+use Rattle.roundtrips.proofs.LayoutBack.{rows-at}
 
 all-take : {A : Type 0} (P : A → Type 0) (n : ℕ) (xs : List A) → All P xs → All P (take n xs)
 all-take P zero xs a = tt

@@ -10,10 +10,10 @@ use Rattle.state.specs.declared.record.Layout.{Layout}
 use Rattle.state.specs.Bases.{baseOf}
 use Rattle.soundness.specs.Sound.{allFrom, segmentTest, stackTest, rightsTest, startTest, layoutTest}
 use Rattle.soundness.proofs.Facts.{LayoutSound, layout-facts}
 use Rattle.image.specs.Image.{imageOf, imageFrom, bytesOf}
 use Rattle.image.proofs.Sizes.{image-size}
-use Rattle.image.proofs.ReadBack.{image-back}
-use Rattle.image.proofs.LayoutBack.{Arrays, good-image, wide-image}
+use Rattle.roundtrips.proofs.ReadBack.{image-back}
+use Rattle.roundtrips.proofs.LayoutBack.{Arrays, good-image, wide-image}
 
 abbrev pub largest : Layout
 largest =

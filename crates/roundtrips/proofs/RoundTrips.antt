@@ -14,17 +14,17 @@ use Rattle.state.specs.Bases.{wordsIn}
 use Rattle.soundness.specs.Sound.{soundTest}
 use Rattle.soundness.specs.Fresh.{freshOf}
 use Rattle.soundness.proofs.Facts.{sound-facts}
 use Rattle.image.specs.Segment.{allWords}
 use Rattle.image.specs.Image.{Image, imageOf, imageFrom, bytesOf, layoutOf, segmentsIn}
 use Rattle.image.specs.Reader.{readOf, machineAfter, memoryAfter}
 use Rattle.image.specs.Writer.{writeOf}
 use Rattle.image.proofs.Answers.{passed, test, after, the-value}
-use Rattle.image.proofs.Accepted.{accepted, longest}
-use Rattle.image.proofs.AcceptedSound.{accepted-sound}
-use Rattle.image.proofs.ReadBack.{Below, image-back}
-use Rattle.image.proofs.WriteBack.{image-forth}
-use Rattle.image.proofs.LayoutBack.{Arrays, words-in-order, words-count, good-image, wide-image, layout-back}
-use Rattle.image.proofs.LayoutForth.{image-again}
+use Rattle.roundtrips.proofs.Accepted.{accepted, longest}
+use Rattle.roundtrips.proofs.AcceptedSound.{accepted-sound}
+use Rattle.roundtrips.proofs.ReadBack.{Below, image-back}
+use Rattle.roundtrips.proofs.WriteBack.{image-forth}
+use Rattle.roundtrips.proofs.LayoutBack.{Arrays, words-in-order, words-count, good-image, wide-image, layout-back}
+use Rattle.roundtrips.proofs.LayoutForth.{image-again}
 
 -- the facts of an accepted read
 read-image : (bytes ws : List ℕ) (i : Image) → readOf bytes ws ≡ ok i → (8192 ≤ length ws) × (imageOf bytes ≡ ok i)

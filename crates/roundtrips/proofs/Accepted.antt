@@ -12,15 +12,15 @@ use Rattle.words.specs.Field.{field}
 use Rattle.words.specs.PointerWord.{pointerOf}
 use Rattle.words.specs.declared.pointer.Pointer.{Pointer}
 use Rattle.words.proofs.Fields.{field-lt}
 use Rattle.image.specs.Chunk.{Read, chunkOf, exactly}
 use Rattle.image.specs.Segment.{Segment, allWords}
 use Rattle.image.specs.Domain.{Domain}
 use Rattle.image.specs.Image.{Image, endOf, imageOf}
 use Rattle.image.specs.declared.head.Head.{Head}
 use Rattle.image.proofs.Answers.{test, after, bound, the-value}
 use Rattle.image.proofs.Chunks.{chunk-facts, exact-size}
 use Rattle.image.proofs.Images.{ImageRead, image-facts, HeadRead, head-facts, segments-count, domains-count}
-use Rattle.image.proofs.Good.{Good, GoodSegment, GoodSegments, GoodDomain, GoodDomains, All, good-segments, good-domains}
+use Rattle.roundtrips.proofs.Good.{Good, GoodSegment, GoodSegments, GoodDomain, GoodDomains, All, good-segments, good-domains}
 
 -- a pointer that is read has a word number of at most 4,095
 pointer-word : (w : ℕ) (p : Pointer) → pointerOf w ≡ ok p → p .word ≤ 4095

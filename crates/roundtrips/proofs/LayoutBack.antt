@@ -16,17 +16,17 @@ use Rattle.soundness.specs.Sound.{allFrom, between, segmentTest, stackTest, rig
 use Rattle.soundness.proofs.Tests.{join, both, else-part}
 use Rattle.soundness.proofs.All.{each}
 use Rattle.soundness.proofs.Facts.{LayoutSound}
 use Rattle.image.specs.Bytes.{joined}
 use Rattle.image.specs.Segment.{Segment, allWords}
 use Rattle.image.specs.Domain.{Domain, allRights}
 use Rattle.image.specs.Image.{layoutOf, padded, allRows, rowsFrom, segmentAt, domainAt, segmentsIn, domainsIn, imageFrom}
 use Rattle.image.proofs.Joined.{joined-snoc, rows-next, rows-length}
 use Rattle.image.proofs.Padded.{padded-length}
 use Rattle.image.proofs.Sizes.{segment-words, domain-rights, words-all}
-use Rattle.image.proofs.Good.{All, Good, GoodSegment, GoodDomain}
-use Rattle.image.proofs.AcceptedSound.{noSegment, noDomain, padded-at, padded-past, map-at, map-past, rights-at, rows-size}
-use Rattle.image.proofs.ReadBack.{Below}
-use Rattle.image.proofs.WriteBack.{below-drop, below-take}
+use Rattle.roundtrips.proofs.Good.{All, Good, GoodSegment, GoodDomain}
+use Rattle.roundtrips.proofs.AcceptedSound.{noSegment, noDomain, padded-at, padded-past, map-at, map-past, rights-at, rows-size}
+use Rattle.roundtrips.proofs.ReadBack.{Below}
+use Rattle.roundtrips.proofs.WriteBack.{below-drop, below-take}
 
 -- the lists of a layout are as long as its arrays
 pub record Arrays (l : Layout) : Type 0 where

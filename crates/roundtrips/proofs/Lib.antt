@@ -1,0 +1,10 @@
+pub mod Good
+pub mod Accepted
+pub mod AcceptedSound
+pub mod ReadBack
+pub mod WriteBack
+pub mod LayoutBack
+pub mod LayoutForth
+pub mod RoundTrips
+pub mod Longest
+pub mod Examples
