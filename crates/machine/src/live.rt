@@ -1,6 +1,6 @@
 // The live check (dynamic access validation), and arguments that are passed on.
 ghost use mathlib.Core.Path.{_≡_};
-ghost use Rattle.machine.specs.Live.{liveOf, passedOf, sourceAnswer};
+ghost use Rattle.machine.specs.Live.{liveOf, passedOf, sourceAnswer, codeAnswer};
 ghost use Rattle.machine.specs.Flag.{isRead};
 use crate::flag::Access;
 use crate::flag::asked;
@@ -24,6 +24,36 @@ fn is_read(access: Access) -> bool
     }
 }
 
+// The source of the first capability of the live frame that covers the words with the flags asked; 256 where none does or there is no frame.
+fn source_of(
+    depth: u8,
+    frame: Frame,
+    segment: u8,
+    word: u16,
+    length: u16,
+    read: bool,
+    write: bool,
+) -> u16
+    ensures { λ r. ⌜ codeAnswer r ≡ passedOf depth frame segment word length read write ⌝ }
+{
+    if depth == 0 {
+        return 256;
+    }
+    let capabilities = frame.capabilities;
+    match search(
+        capabilities,
+        frame.count,
+        segment,
+        word,
+        length,
+        read,
+        write,
+    ) {
+        CapabilityAnswer::Refused(n) => 256,
+        CapabilityAnswer::Capability(c) => c.source as u16,
+    }
+}
+
 // 0, or 24 where no capability of the live frame matches or there is no frame, or 25 where the first match's source fails its static check.
 pub fn live_check<'a>(
     lengths: &'a [u16; 16],
@@ -36,20 +66,24 @@ pub fn live_check<'a>(
 ) -> u8
     ensures { λ r. ⌜ r ≡ liveOf (now (lengths .entry)) (now (rights .entry)) depth frame access segment word ⌝ }
 {
-    if depth == 0 {
+    let read = is_read(access);
+    let source = source_of(depth, frame, segment, word, 1, read, !read);
+    if 256 <= source {
         return 24;
     }
-    let capabilities = frame.capabilities;
-    let read = is_read(access);
-    match search(capabilities, frame.count, segment, word, 1, read, !read) {
-        CapabilityAnswer::Refused(n) => n,
-        CapabilityAnswer::Capability(c) => {
-            if static_check(lengths, rights, c.source, asked(access), segment, word) == 0 {
-                0
-            } else {
-                25
-            }
-        }
+    if static_check(
+        lengths,
+        rights,
+        (source % 256) as u8,
+        asked(access),
+        segment,
+        word,
+    )
+        == 0
+    {
+        0
+    } else {
+        25
     }
 }
 
@@ -65,20 +99,9 @@ pub fn pass_on(
 ) -> SourceAnswer
     ensures { λ r. ⌜ sourceAnswer r ≡ passedOf depth frame segment word length read write ⌝ }
 {
-    if depth == 0 {
+    let source = source_of(depth, frame, segment, word, length, read, write);
+    if 256 <= source {
         return SourceAnswer::Refused(24);
     }
-    let capabilities = frame.capabilities;
-    match search(
-        capabilities,
-        frame.count,
-        segment,
-        word,
-        length,
-        read,
-        write,
-    ) {
-        CapabilityAnswer::Refused(n) => SourceAnswer::Refused(n),
-        CapabilityAnswer::Capability(c) => SourceAnswer::Source(c.source),
-    }
+    SourceAnswer::Source((source % 256) as u8)
 }

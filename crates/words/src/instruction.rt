@@ -42,11 +42,7 @@ fn signed(offset: u32) -> i32
     requires { ⌜ offset < 4096 ⌝ }
     ensures { λ r. ⌜ r ≡ signedOf offset ⌝ }
 {
-    if offset < 2048 {
-        offset as i32
-    } else {
-        offset as i32 - 4096
-    }
+    ((offset + 2048) % 4096) as i32 - 2048
 }
 
 // The instruction that a word holds.

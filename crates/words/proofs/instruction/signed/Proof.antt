@@ -1,41 +1,53 @@
 -- `words::instruction::signed` meets its contract.
-use Prim.Native.Nat.{_<_, _^_}
+use Prim.Native.Nat.{ℕ, _<_, _≤_, _+_, _-_, _%_, _^_}
 use native.Mathlib.Omega.{arith}
-use mathlib.Core.Path.{_≡_, sym, _∙_}
+use mathlib.Core.Path.{_≡_, refl, sym, ap, _∙_}
+use mathlib.Core.Bool.{Bool, true, false}
 use borrow.Author.Needs.{needs}
-use borrow.Author.Tests.{lt-ltb, le-ltb}
-use lib.IntN.{pos, _-ℤ_}
+use borrow.Author.Tests.{ltb-true, ltb-false, lt-ltb, le-ltb}
+use lib.Dec.{ltb}
+use lib.IntN.{pos, negsuc, subℕ, _-ℤ_}
 use mir.Syntax.{w32}
 use mir.Val.{SFits, toZ, ofZ}
 use mir.ValLaws.{toZ-ofZ, toZ-pos}
 use Rattle.words.specs.Offset.{signedOf}
-use Rattle.words.proofs.Integers.{sub-mag}
+use Rattle.words.proofs.Integers.{sub-mag, sub-above, sub-below}
 use Rattle.words.proofs.instruction.signed.Statement.{statement}
 use Rattle.words.proofs.instruction.signed.Tie as tie
 
--- what the machine reads back from twelve bits
-read : (s : tie.Start) → toZ w32 (s .args .offset) ≡ pos (s .args .offset)
-read s = toZ-pos w32 (s .args .offset) (omega (arith, s .pre))
+-- twelve bits turned by 2,048
+abbrev turned : ℕ → ℕ
+turned n = (n + 2048) % 4096
 
-small : (s : tie.Start) → SFits w32 (pos (s .args .offset) -ℤ pos 4096)
-small s = record { sfits = sub-mag (2 ^ 31) (s .args .offset) 4096 (omega (arith, s .pre)) (omega arith) }
+read : (n : ℕ) → toZ w32 (turned n) ≡ pos (turned n)
+read n = toZ-pos w32 (turned n) (omega arith)
+
+small : (n : ℕ) → SFits w32 (pos (turned n) -ℤ pos 2048)
+small n = record { sfits = sub-mag (2 ^ 31) (turned n) 2048 (omega arith) (omega arith) }
+
+value : (n : ℕ) → n < 4096 → pos (turned n) -ℤ pos 2048 ≡ signedOf n
+unfolding signedOf
+value n h = by (ltb n 2048) refl
+  where
+    by : (t : Bool) → ltb n 2048 ≡ t → subℕ (turned n) 2048 ≡ signedOf n
+    by true e =
+        let l : n < 2048 = ltb-true n 2048 e in
+        simp e (sub-above (turned n) 2048 (omega arith) ∙ ap pos (omega arith))
+    by false e =
+        let l : 2048 ≤ n = ltb-false n 2048 e in
+        simp e (sub-below (turned n) 2048 (omega arith) ∙ ap negsuc (omega arith) ∙ sym (sub-below n 4096 h))
+
+add-result : tie.Need-add-result
+add-result c = search needs
 
 cast-result : tie.Need-cast-result
 cast-result c = search needs
 
-cast-result-2 : tie.Need-cast-result-2
-cast-result-2 c = search needs
-
 sub-result : tie.Need-sub-result
-sub-result c = rw (read (c .before)) (small (c .before))
+sub-result c = rw (read (c .args .offset)) (small (c .args .offset))
 
 returns : tie.Need-returns
-unfolding signedOf
-returns c = simp (lt-ltb _ _ (c .if1 .taken)) (read (c .before))
-
-returns-2 : tie.Need-returns-2
-unfolding signedOf
-returns-2 c = simp (le-ltb _ _ (c .if1 .left), read (c .before)) (toZ-ofZ w32 _ (small (c .before)))
+returns c = simp (read (c .args .offset)) (toZ-ofZ w32 _ (small (c .args .offset)) ∙ value (c .args .offset) (c .pre))
 
 pub signed-spec : {M : Type 1} → statement M
-signed-spec = tie.close (tie.spec cast-result cast-result-2 sub-result returns returns-2)
+signed-spec = tie.close (tie.spec add-result cast-result sub-result returns)
