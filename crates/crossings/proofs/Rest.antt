@@ -19,10 +19,10 @@ module _ (read : Reader) (a : Pointer) (caller depth : ℕ) (live : Frame) (n i 
   unfolding argumentsFrom
   refused-rest x e = ap (λ (k : ℕ). argumentsFrom read a caller depth live k i rows) next ∙ rw e
 
-  pub taken-rest : (c : Capability) → argumentOf read a caller depth live i ≡ ok c
-      → argumentsFrom read a caller depth live (n - i) i rows ≡ argumentsFrom read a caller depth live (n - (i + 1)) (i + 1) (set rows i c)
+  pub taken-rest : (c : Capability) (more : List Capability) → argumentOf read a caller depth live i ≡ ok c → more ≡ set rows i c
+      → argumentsFrom read a caller depth live (n - i) i rows ≡ argumentsFrom read a caller depth live (n - (i + 1)) (i + 1) more
   unfolding argumentsFrom
-  taken-rest c e = ap (λ (k : ℕ). argumentsFrom read a caller depth live k i rows) next ∙ rw e
+  taken-rest c more e m = ap (λ (k : ℕ). argumentsFrom read a caller depth live k i rows) next ∙ rw (e, m)
 
 pub no-rest : (read : Reader) (a : Pointer) (caller depth : ℕ) (live : Frame) (n i : ℕ) → n ≤ i → (rows : List Capability) → argumentsFrom read a caller depth live (n - i) i rows ≡ ok rows
 unfolding argumentsFrom

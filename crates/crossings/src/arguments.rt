@@ -2,13 +2,12 @@
 ghost use mathlib.Core.Path.{_≡_};
 ghost use mathlib.Core.Bool.{true};
 ghost use Prim.Native.Nat.{_≤_};
-ghost use lib.ListN.{replicate};
+ghost use lib.ListN.{replicate, set};
 ghost use Rattle.state.specs.Record.{noCapability};
-ghost use Rattle.words.specs.PointerWord.{pointerAnswer};
 ghost use Rattle.capabilities.specs.Search.{capabilityAnswer};
 ghost use Rattle.machine.specs.Live.{sourceAnswer};
 ghost use Rattle.instructions.specs.Reader.{readOf, wordAnswer};
-ghost use Rattle.crossings.specs.ArgumentList.{listWord, listPointer, sourceOf, capabilityOf, argumentOf, argumentsFrom, filledOf, frameAfter, frameOf, rowsAnswer, frameAnswer};
+ghost use Rattle.crossings.specs.ArgumentList.{listWord, sourceOf, capabilityOf, argumentOf, argumentsFrom, filledOf, frameAfter, frameOf, rowsAnswer, frameAnswer};
 use capabilities::CapabilityAnswer;
 use instructions::access::WordAnswer;
 use instructions::access::read;
@@ -80,26 +79,6 @@ fn capability(caller: u8, depth: u8, frame: Frame, p: Pointer, mode: u32) -> Cap
     }
 }
 
-// The pointer in word k of the list.
-fn list_pointer<'a>(
-    lengths: &'a [u16; 16],
-    rights: &'a [u8; 128],
-    bases: &'a [u32; 16],
-    words: &[u32],
-    domain: u8,
-    depth: u8,
-    frame: Frame,
-    a: Pointer,
-    k: u16,
-) -> PointerAnswer
-    ensures { λ r. ⌜ pointerAnswer r ≡ listPointer (readOf (now (lengths .entry)) (now (rights .entry)) (now (bases .entry)) (now (words .entry)) domain depth frame) a k ⌝ }
-{
-    match list_word(lengths, rights, bases, words, domain, depth, frame, a, k) {
-        WordAnswer::Refused(n) => PointerAnswer::Refused(n),
-        WordAnswer::Word(w) => words::pointer::unpack(w),
-    }
-}
-
 // Argument i of the list.
 fn argument<'a>(
     lengths: &'a [u16; 16],
@@ -115,21 +94,24 @@ fn argument<'a>(
     ensures { λ r. ⌜ capabilityAnswer r ≡ argumentOf (readOf (now (lengths .entry)) (now (rights .entry)) (now (bases .entry)) (now (words .entry)) domain depth frame) a domain depth frame i ⌝ }
 {
     let at = 3 + 2 * (i as u16);
-    match list_pointer(lengths, rights, bases, words, domain, depth, frame, a, at) {
-        PointerAnswer::Refused(n) => CapabilityAnswer::Refused(n),
-        PointerAnswer::Pointer(p) => match list_word(
-            lengths,
-            rights,
-            bases,
-            words,
-            domain,
-            depth,
-            frame,
-            a,
-            at + 1,
-        ) {
-            WordAnswer::Refused(n) => CapabilityAnswer::Refused(n),
-            WordAnswer::Word(v) => capability(domain, depth, frame, p, v),
+    match list_word(lengths, rights, bases, words, domain, depth, frame, a, at) {
+        WordAnswer::Refused(n) => CapabilityAnswer::Refused(n),
+        WordAnswer::Word(w) => match words::pointer::unpack(w) {
+            PointerAnswer::Refused(n) => CapabilityAnswer::Refused(n),
+            PointerAnswer::Pointer(p) => match list_word(
+                lengths,
+                rights,
+                bases,
+                words,
+                domain,
+                depth,
+                frame,
+                a,
+                at + 1,
+            ) {
+                WordAnswer::Refused(n) => CapabilityAnswer::Refused(n),
+                WordAnswer::Word(v) => capability(domain, depth, frame, p, v),
+            },
         },
     }
 }
@@ -139,6 +121,26 @@ pub struct Rows {
     pub rows: [Capability; 9],
     pub number: u8,
     pub refused: bool,
+}
+
+// The rows with c in row k. Constant indexes, so that the rows lie in registers.
+fn with_row(rows: [Capability; 9], k: u8, c: Capability) -> [Capability; 9]
+    requires { ⌜ k ≤ 8 ⌝ }
+    ensures { λ r. ⌜ r ≡ set rows k c ⌝ }
+{
+    let mut next = rows;
+    match k {
+        0 => next[0] = c,
+        1 => next[1] = c,
+        2 => next[2] = c,
+        3 => next[3] = c,
+        4 => next[4] = c,
+        5 => next[5] = c,
+        6 => next[6] = c,
+        7 => next[7] = c,
+        _ => next[8] = c,
+    }
+    next
 }
 
 // The n arguments of the list, in its order, in rows that are empty otherwise.
@@ -176,8 +178,8 @@ fn arguments<'a>(
                 };
             }
             CapabilityAnswer::Capability(c) => {
-                let k = i as usize;
-                rows[k] = c;
+                let more = with_row(rows, i, c);
+                rows = more;
             }
         }
         i += 1;
@@ -219,9 +221,7 @@ fn filled(rows: [Capability; 9], a: Pointer, s: Pointer, back: Pointer, caller: 
         read: true,
         write: false,
     };
-    let mut capabilities = rows;
-    let k = n as usize;
-    capabilities[k] = list;
+    let capabilities = with_row(rows, n, list);
     Frame {
         capabilities,
         s,
@@ -247,25 +247,38 @@ fn frame_after<'a>(
     requires { ⌜ n ≤ 8 ⌝ }
     ensures { λ r. ⌜ frameAnswer r ≡ frameAfter (readOf (now (lengths .entry)) (now (rights .entry)) (now (bases .entry)) (now (words .entry)) domain depth frame) a s domain depth frame n ⌝ }
 {
-    match list_pointer(lengths, rights, bases, words, domain, depth, frame, a, 1) {
-        PointerAnswer::Refused(number) => refuse(frame, number),
-        PointerAnswer::Pointer(back) => {
-            if back.tag {
-                return refuse(frame, 30);
-            }
-            match climb(a.word, 2) {
-                words::offset::WordAnswer::Refused(number) => refuse(frame, number),
-                words::offset::WordAnswer::Word(_) => {
-                    let r = arguments(lengths, rights, bases, words, domain, depth, frame, a, n);
-                    if r.refused {
-                        return refuse(frame, r.number);
-                    }
-                    let rows = r.rows;
-                    let made = filled(rows, a, s, back, domain, n);
-                    Framed {
-                        frame: made,
-                        number: 0,
-                        refused: false,
+    match list_word(lengths, rights, bases, words, domain, depth, frame, a, 1) {
+        WordAnswer::Refused(number) => refuse(frame, number),
+        WordAnswer::Word(w) => match words::pointer::unpack(w) {
+            PointerAnswer::Refused(number) => refuse(frame, number),
+            PointerAnswer::Pointer(back) => {
+                if back.tag {
+                    return refuse(frame, 30);
+                }
+                match climb(a.word, 2) {
+                    words::offset::WordAnswer::Refused(number) => refuse(frame, number),
+                    words::offset::WordAnswer::Word(_) => {
+                        let r = arguments(
+                            lengths,
+                            rights,
+                            bases,
+                            words,
+                            domain,
+                            depth,
+                            frame,
+                            a,
+                            n,
+                        );
+                        if r.refused {
+                            return refuse(frame, r.number);
+                        }
+                        let rows = r.rows;
+                        let made = filled(rows, a, s, back, domain, n);
+                        Framed {
+                            frame: made,
+                            number: 0,
+                            refused: false,
+                        }
                     }
                 }
             }

@@ -38,14 +38,8 @@ returns c =
 enum-known-c : tie.Need-enum-known-c Inv-loop μ-loop
 enum-known-c c = search needs
 
-cast-k : tie.Need-cast-k Inv-loop μ-loop
-cast-k c = search needs
-
-mul-rows : tie.Need-mul-rows Inv-loop μ-loop
-mul-rows c = search needs
-
-array-set-from-rows : tie.Need-array-set-from-rows Inv-loop μ-loop
-array-set-from-rows c = search needs
+with-row-requires : tie.Need-with-row-requires Inv-loop μ-loop
+with-row-requires c κs = search needs
 
 add-i : tie.Need-add-i Inv-loop μ-loop
 add-i c = search needs
@@ -55,10 +49,11 @@ loop-less c = search needs
 
 loop-again : tie.Need-loop-again Inv-loop μ-loop
 loop-again c =
-    let g = c .before .before .before in
+    let k = c .before .before in
+    let g = k .before .before in
     let l = g .before .before in
     let s = l .before .before .args in
-    (search needs, l .loop .inv .1 ∙ taken-rest (readOf (s .lengths .now) (s .rights .now) (s .bases .now) (s .words .now) (s .domain) (s .depth) (s .frame)) (s .a) (s .domain) (s .depth) (s .frame) (s .n) (l .loop .i) (g .before .loop-test .taken) (l .loop .rows) _ (sym (g .argument .ensures) ∙ ap capabilityAnswer (c .before .c .given .1)))
+    (search needs, l .loop .inv .1 ∙ taken-rest (readOf (s .lengths .now) (s .rights .now) (s .bases .now) (s .words .now) (s .domain) (s .depth) (s .frame)) (s .a) (s .domain) (s .depth) (s .frame) (s .n) (l .loop .i) (g .before .loop-test .taken) (l .loop .rows) _ (c .with-row .result) (sym (g .argument .ensures) ∙ ap capabilityAnswer (k .c .given .1)) (c .with-row .ensures))
 
 returns-2 : tie.Need-returns-2 Inv-loop μ-loop
 returns-2 c =
@@ -77,9 +72,7 @@ arguments-spec =
     enum-known-number
     returns
     enum-known-c
-    cast-k
-    mul-rows
-    array-set-from-rows
+    with-row-requires
     add-i
     loop-less
     loop-again
