@@ -17,7 +17,7 @@ pub struct Pause {
     pub count: u16,
 }
 
-// Moves from the n-th instruction of a run on, up to its limit. The frame is the live one: it changes at a crossing only.
+// Moves from the n-th instruction of a run on, up to its limit. The frame is the live one: it changes at a crossing only. The registers lie in locals of their own, so that each is kept in a register.
 pub fn make_moves<'a>(
     lengths: &'a [u16; 16],
     gates: &'a [u16; 16],
@@ -36,7 +36,10 @@ pub fn make_moves<'a>(
     ensures { λ t. ⌜ t ≡ movesFrom (now (lengths .entry)) (now (gates .entry)) (now (rights .entry)) (now (stacks .entry)) (now (bases .entry)) depth frame (limit - from) from r ps (now (words .entry)) .pause ⌝ }
     ensures { λ t. ⌜ now (words .exit) ≡ movesFrom (now (lengths .entry)) (now (gates .entry)) (now (rights .entry)) (now (stacks .entry)) (now (bases .entry)) depth frame (limit - from) from r ps (now (words .entry)) .words ⌝ }
 {
-    let mut registers = r;
+    let mut a = r.a;
+    let mut word = r.word;
+    let mut segment = r.segment;
+    let mut domain = r.domain;
     let mut pointers = ps;
     let mut n = from;
     while n < limit {
@@ -49,23 +52,28 @@ pub fn make_moves<'a>(
             words,
             depth,
             frame,
-            registers,
+            Registers {
+                a,
+                word,
+                segment,
+                domain,
+            },
             pointers,
         );
         let event = t.event;
         match event {
             Event::Moved => {
-                let next = t.registers;
-                registers = Registers {
-                    a: next.a,
-                    word: next.word,
-                    segment: next.segment,
-                    domain: next.domain,
-                };
+                a = t.registers.a;
+                word = t.registers.word;
+                segment = t.registers.segment;
+                domain = t.registers.domain;
                 n += 1;
             }
             Event::Pointed(i, p) => {
-                registers = t.registers;
+                a = t.registers.a;
+                word = t.registers.word;
+                segment = t.registers.segment;
+                domain = t.registers.domain;
                 let pointed = with_pointer(pointers, i, p);
                 pointers = pointed;
                 n += 1;
@@ -73,7 +81,12 @@ pub fn make_moves<'a>(
             other => {
                 return Pause {
                     pointers,
-                    registers,
+                    registers: Registers {
+                        a,
+                        word,
+                        segment,
+                        domain,
+                    },
                     event: other,
                     count: n,
                 };
@@ -82,7 +95,12 @@ pub fn make_moves<'a>(
     }
     Pause {
         pointers,
-        registers,
+        registers: Registers {
+            a,
+            word,
+            segment,
+            domain,
+        },
         event: Event::Moved,
         count: n,
     }

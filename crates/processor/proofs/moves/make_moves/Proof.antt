@@ -9,6 +9,7 @@ use types.Run.{OneOf}
 use lib.ListN.{length}
 use Rattle.words.specs.Answer.{ok}
 use Rattle.words.specs.declared.pointer.Pointer.{Pointer}
+use Rattle.state.specs.declared.record.Registers.{Registers}
 use Rattle.instructions.specs.declared.turn.Event.the-variants as event
 use Rattle.instructions.specs.Turn.{moved, eventAnswer}
 use Rattle.processor.specs.Moves.{Paused}
@@ -16,12 +17,17 @@ use Rattle.processor.proofs.Moving.{Moving, starts, spent, goes, pauses
 use Rattle.processor.proofs.moves.make_moves.Statement.{statement}
 use Rattle.processor.proofs.moves.make_moves.Tie as tie
 
+-- the registers, which lie apart
+abbrev held : ℕ → ℕ → ℕ → ℕ → Registers
+held a word segment domain = record { a = a; word = word; segment = segment; domain = domain }
+
 abbrev Inv-loop : tie.InvT-loop
-Inv-loop lengths gates rights stacks bases words₀ depth frame from limit registers₀ pointers₀ n₀ words registers pointers n =
-    Moving lengths gates rights stacks bases depth frame limit from registers₀ pointers₀ words₀ n registers pointers words
+Inv-loop lengths gates rights stacks bases words₀ depth frame from limit a₀ word₀ segment₀ domain₀ pointers₀ n₀ words a word segment domain pointers n =
+    Moving lengths gates rights stacks bases depth frame limit from (held a₀ word₀ segment₀ domain₀) pointers₀ words₀ n (held a word segment domain) pointers words
 
 abbrev μ-loop : tie.MeasureT-loop
-μ-loop lengths gates rights stacks bases words₀ depth frame from limit registers₀ pointers₀ n₀ words registers pointers n = limit - n
+μ-loop lengths gates rights stacks bases words₀ depth frame from limit a₀ word₀ segment₀ domain₀ pointers₀ n₀ words a word segment domain pointers n =
+    limit - n
 
 -- the default arm is neither that of Moved nor that of Pointed
 another : (k : ℕ) → k ≤ 1 → OneOf (2 ∷ 3 ∷ 4 ∷ 5 ∷ []) k → ⊥
@@ -37,16 +43,16 @@ enum-told : tie.Need-enum-told Inv-loop μ-loop
 enum-told c = search needs
 
 add-n : tie.Need-add-n Inv-loop μ-loop
-add-n c = omega (arith, c .before .before .before .before .before .before .before .loop-test .taken, c .before .before .before .before .before .before .before .before .before .before .fits .limit)
+add-n c = omega (arith, c .before .before .before .before .before .before .loop-test .taken, c .before .before .before .before .before .before .before .before .before .fits .limit)
 
 loop-less : tie.Need-loop-less Inv-loop μ-loop
-loop-less c = omega (arith, c .before .before .before .before .before .before .before .loop-test .taken)
+loop-less c = omega (arith, c .before .before .before .before .before .before .loop-test .taken)
 
 loop-again : tie.Need-loop-again Inv-loop μ-loop
 loop-again c =
-    let t = c .before .before .before .before .before in
+    let t = c .before .before .before .before in
     let l = t .before .before in
-    goes _ _ _ _ _ _ _ _ _ _ _ _ _ _ _ _ (l .before .loop .inv) (l .loop-test .taken) _ _ _ (sym (t .take-turn .ensures .0) ∙ ap (eventAnswer _ _) (c .before .enum-told .given .1)) (t .take-turn .ensures .1)
+    goes _ _ _ _ _ _ _ _ _ _ _ _ _ _ _ _ (l .before .loop .inv) (l .loop-test .taken) _ _ _ (sym (t .take-turn .ensures .0) ∙ ap (eventAnswer _ _) (c .enum-told .given .1)) (t .take-turn .ensures .1)
 
 enum-known-event : tie.Need-enum-known-event Inv-loop μ-loop
 enum-known-event c = search needs
@@ -55,16 +61,16 @@ with-pointer-requires : tie.Need-with-pointer-requires Inv-loop μ-loop
 with-pointer-requires c κs = tt
 
 add-n-2 : tie.Need-add-n-2 Inv-loop μ-loop
-add-n-2 c = omega (arith, c .before .before .before .before .before .before .before .before .before .loop-test .taken, c .before .before .before .before .before .before .before .before .before .before .before .before .fits .limit)
+add-n-2 c = omega (arith, c .before .before .before .before .before .before .before .before .loop-test .taken, c .before .before .before .before .before .before .before .before .before .before .before .fits .limit)
 
 loop-less-2 : tie.Need-loop-less-2 Inv-loop μ-loop
-loop-less-2 c = omega (arith, c .before .before .before .before .before .before .before .before .before .loop-test .taken)
+loop-less-2 c = omega (arith, c .before .before .before .before .before .before .before .before .loop-test .taken)
 
 loop-again-2 : tie.Need-loop-again-2 Inv-loop μ-loop
 loop-again-2 c =
-    let t = c .before .before .before .before .before .before .before in
+    let t = c .before .before .before .before .before .before in
     let l = t .before .before in
-    goes _ _ _ _ _ _ _ _ _ _ _ _ _ _ _ _ (l .before .loop .inv) (l .loop-test .taken) _ _ _ (sym (t .take-turn .ensures .0) ∙ ap (eventAnswer _ _) (c .before .before .before .event .given .1) ∙ ap (λ (ps : List Pointer). ok (moved (t .take-turn .result .registers) ps)) (sym (c .with-pointer .ensures))) (t .take-turn .ensures .1)
+    goes _ _ _ _ _ _ _ _ _ _ _ _ _ _ _ _ (l .before .loop .inv) (l .loop-test .taken) _ _ _ (sym (t .take-turn .ensures .0) ∙ ap (eventAnswer _ _) (c .before .before .event .given .1) ∙ ap (λ (ps : List Pointer). ok (moved (t .take-turn .result .registers) ps)) (sym (c .with-pointer .ensures))) (t .take-turn .ensures .1)
 
 same-length : tie.Need-same-length Inv-loop μ-loop
 same-length c =
