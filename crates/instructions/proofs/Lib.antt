@@ -2,4 +2,5 @@ pub mod Answers
 pub mod Accesses
 pub mod Transfers
 pub mod Turns
+pub mod Jumps
 pub mod Registers

@@ -10,9 +10,9 @@ use Rattle.state.specs.declared.record.Frame.{Frame}
 use Rattle.state.specs.declared.record.Registers.{Registers}
 use Rattle.machine.specs.Reference.{accept}
 use Rattle.instructions.specs.Reader.{Reader}
-use Rattle.instructions.specs.Plan.{Plan, move, enter, leave}
-use Rattle.instructions.specs.Instruction.{jumpCheck, callWay, jumpOf, callOf, returnOf, loadOf, branchOf, next, operateOf, stackOf, withBase}
-use Rattle.instructions.specs.Turn.{Turned, moved, entering, leaving, registersAt, settled, settledAnswer, settledWords, loaded, called}
+use Rattle.instructions.specs.Plan.{Plan, move, enter}
+use Rattle.instructions.specs.Instruction.{jumpCheck, callWay, jumpOf, callOf, loadOf, next, operateOf, stackOf, withBase}
+use Rattle.instructions.specs.Turn.{Turned, moved, entering, registersAt, settled, settledAnswer, settledWords, loaded, called}
 use Rattle.instructions.proofs.Answers.{accept-then}
 
 module _ (lengths gates rights stacks bases words : List ℕ) (depth : ℕ) (frame : Frame) (r : Registers) (pointers : List Pointer) where
@@ -54,16 +54,3 @@ module _ (lengths gates rights stacks bases words : List ℕ) (depth : ℕ) (fra
       by (refuse n) = record { there = refl; words-stay = refl }
       by (ok true) = record { there = refl; words-stay = refl }
       by (ok false) = record { there = refl; words-stay = refl }
-
-  pub return-settles : (p : Pointer) → Settles (returnOf lengths gates rights stacks depth r pointers p) (if p .tag then ok (leaving p) else accept (jumpCheck lengths rights (r .domain) p) (moved (registersAt r (r .a) (p .segment) (p .word)) pointers))
-  unfolding returnOf
-  return-settles p = by (p .tag)
-    where
-      by : (t : Bool) → Settles (if t then ok (leave p) else jumpOf lengths gates rights stacks depth r pointers p) (if t then ok (leaving p) else accept (jumpCheck lengths rights (r .domain) p) (moved (registersAt r (r .a) (p .segment) (p .word)) pointers))
-      by true = record { there = refl; words-stay = refl }
-      by false = jump-settles p
-
-  pub branch-settles : (taken : Bool) (p : Pointer) → Settles (branchOf lengths gates rights stacks depth r pointers taken p) (if taken then accept (jumpCheck lengths rights (r .domain) p) (moved (registersAt r (r .a) (p .segment) (p .word)) pointers) else ok (moved (registersAt r (r .a) (r .segment) (r .word + 1)) pointers))
-  unfolding branchOf
-  branch-settles true p = jump-settles p
-  branch-settles false p = record { there = refl; words-stay = refl }

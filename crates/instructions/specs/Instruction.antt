@@ -81,7 +81,11 @@ valueOf opcode a pointers register = if eqb opcode STORE then a else pointerWord
 
 -- whether JZ jumps, or JM
 unfoldable pub takenOf : ℕ → ℕ → Bool
-takenOf opcode a = if eqb opcode JZ then eqb a 0 else leb (2 ^ 31) a
+takenOf opcode a = if eqb opcode JZ then eqb a 0 else (if eqb opcode JM then leb (2 ^ 31) a else false)
+
+-- whether an opcode jumps to an effective pointer of this tag
+unfoldable pub jumpsOf : ℕ → ℕ → Bool → Bool
+jumpsOf opcode a tag = if eqb opcode JUMP then true else (if eqb opcode RET then not tag else takenOf opcode a)
 
 -- pointer register b at word 0 of a stack segment
 abbrev pub withBase : List Pointer → ℕ → List Pointer

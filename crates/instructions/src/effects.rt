@@ -1,19 +1,16 @@
-// The effects of the opcodes, one function a kind.
+// The effects of loads, stores and calls, and where an instruction goes on.
 ghost use mathlib.Core.Path.{_≡_};
 ghost use Prim.Native.Nat.{_<_, _+_};
-ghost use Rattle.words.specs.Answer.{ok, if_then_else_};
 ghost use Rattle.instructions.specs.Reader.{readOf, writtenOf};
-ghost use Rattle.machine.specs.Reference.{accept};
 ghost use Rattle.instructions.specs.Plan.{store};
-ghost use Rattle.instructions.specs.Instruction.{jumpCheck, callWay, operateOf, stackOf};
-ghost use Rattle.instructions.specs.Turn.{Turns, loaded, called, settled, moved, leaving, registersAt};
+ghost use Rattle.instructions.specs.Instruction.{callWay, operateOf, stackOf};
+ghost use Rattle.instructions.specs.Turn.{Turns, loaded, called, settled, registersAt};
 use crate::access::WordAnswer;
 use crate::access::read;
 use crate::access::write;
 use crate::pointers::stack_of;
 use crate::transfer::CallAnswer;
 use crate::transfer::call_way;
-use crate::transfer::jump_check;
 use crate::turn::Event;
 use crate::turn::Turn;
 use state::record::Frame;
@@ -130,17 +127,6 @@ pub fn save<'a>(
     onward(r, r.a, Event::Moved)
 }
 
-// JUMP.
-pub fn jump<'a>(lengths: &'a [u16; 16], rights: &'a [u8; 128], r: Registers, p: Pointer) -> Turn
-    ensures { λ t. ⌜ Turns t (λ ps. accept (jumpCheck (now (lengths .entry)) (now (rights .entry)) (r .domain) p) (moved (registersAt r (r .a) (p .segment) (p .word)) ps)) ⌝ }
-{
-    let n = jump_check(lengths, rights, r.domain, p);
-    if n != 0 {
-        return stay(r, Event::Faulted(n));
-    }
-    go_to(r, p, Event::Moved)
-}
-
 // CALL, up to the argument list.
 pub fn call<'a>(
     lengths: &'a [u16; 16],
@@ -165,39 +151,5 @@ pub fn call<'a>(
             };
             go_to(r, p, Event::Pointed(2, base))
         }
-    }
-}
-
-// JZ and JM.
-pub fn branch<'a>(
-    lengths: &'a [u16; 16],
-    rights: &'a [u8; 128],
-    r: Registers,
-    taken: bool,
-    p: Pointer,
-) -> Turn
-    requires { ⌜ r .word < 65535 ⌝ }
-    ensures { λ t. ⌜ Turns t (λ ps. if taken then accept (jumpCheck (now (lengths .entry)) (now (rights .entry)) (r .domain) p) (moved (registersAt r (r .a) (p .segment) (p .word)) ps) else ok (moved (registersAt r (r .a) (r .segment) (r .word + 1)) ps)) ⌝ }
-{
-    if taken {
-        jump(lengths, rights, r, p)
-    } else {
-        onward(r, r.a, Event::Moved)
-    }
-}
-
-// RET, up to a return across domains.
-pub fn give_back<'a>(
-    lengths: &'a [u16; 16],
-    rights: &'a [u8; 128],
-    r: Registers,
-    p: Pointer,
-) -> Turn
-    ensures { λ t. ⌜ Turns t (λ ps. if p .tag then ok (leaving p) else accept (jumpCheck (now (lengths .entry)) (now (rights .entry)) (r .domain) p) (moved (registersAt r (r .a) (p .segment) (p .word)) ps)) ⌝ }
-{
-    if p.tag {
-        stay(r, Event::Leaving(p))
-    } else {
-        jump(lengths, rights, r, p)
     }
 }

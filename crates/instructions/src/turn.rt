@@ -2,20 +2,19 @@
 ghost use mathlib.Core.Path.{_≡_};
 ghost use Prim.Native.Nat.{_<_};
 ghost use Rattle.instructions.specs.Reader.{readOf};
-ghost use Rattle.instructions.specs.Instruction.{isLoad, isStore, valueOf, takenOf, effectOf, executeOf};
+ghost use Rattle.instructions.specs.Instruction.{isLoad, isStore, valueOf, jumpsOf, effectOf, executeOf};
 ghost use Rattle.instructions.specs.Turn.{turnAnswer, turnOf, turnWords, settledAnswer, settledWords};
 use crate::access::WordAnswer;
 use crate::access::fetch;
 use crate::effective::effective;
-use crate::effects::branch;
 use crate::effects::call;
-use crate::effects::give_back;
-use crate::effects::jump;
+use crate::effects::go_to;
 use crate::effects::load;
 use crate::effects::onward;
 use crate::effects::save;
 use crate::effects::stay;
 use crate::pointers::pointer_at;
+use crate::transfer::jump_check;
 use state::record::Frame;
 use state::record::Registers;
 use words::instruction::Instruction;
@@ -74,14 +73,17 @@ fn value(opcode: u8, a: u32, pointers: [Pointer; 8], register: u8) -> u32
     pack(pointer_at(pointers, register))
 }
 
-// Whether JZ or JM jumps.
-fn taken(opcode: u8, a: u32) -> bool
-    ensures { λ t. ⌜ t ≡ takenOf opcode a ⌝ }
+// Whether JUMP, RET, JZ or JM jumps to an effective pointer of this tag.
+fn jumps(opcode: u8, a: u32, tag: bool) -> bool
+    ensures { λ t. ⌜ t ≡ jumpsOf opcode a tag ⌝ }
 {
-    if opcode == 10 {
-        return a == 0;
+    match opcode {
+        7 => true,
+        9 => !tag,
+        10 => a == 0,
+        11 => 2147483648 <= a,
+        _ => false,
     }
-    2147483648 <= a
 }
 
 // The effect of an opcode at an effective pointer.
@@ -111,12 +113,18 @@ fn effect<'a>(
         let v = value(opcode, r.a, pointers, register);
         return save(lengths, rights, bases, words, depth, frame, r, p, v);
     }
+    if jumps(opcode, r.a, p.tag) {
+        let n = jump_check(lengths, rights, r.domain, p);
+        if n != 0 {
+            return stay(r, Event::Faulted(n));
+        }
+        return go_to(r, p, Event::Moved);
+    }
     match opcode {
         5 => onward(r, r.a, Event::Pointed(register, p)),
-        7 => jump(lengths, rights, r, p),
         8 => call(lengths, gates, rights, stacks, depth, r, p),
-        9 => give_back(lengths, rights, r, p),
-        _ => branch(lengths, rights, r, taken(opcode, r.a), p),
+        9 => stay(r, Event::Leaving(p)),
+        _ => onward(r, r.a, Event::Moved),
     }
 }
 

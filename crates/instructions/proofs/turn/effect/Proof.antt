@@ -2,11 +2,12 @@
 use borrow.Author.Needs.{needs}
 use mathlib.Core.Bool.{true, false}
 use mathlib.Core.Path.{_≡_, refl, sym, ap, _∙_}
-use borrow.Author.Tests.{ne-eqb}
+use borrow.Author.Tests.{eq-eqb, ne-eqb}
 use Rattle.instructions.specs.Reader.{readOf}
-use Rattle.instructions.specs.Instruction.{isLoad, isStore, takenOf, effectOf}
+use Rattle.instructions.specs.Instruction.{isLoad, isStore, effectOf}
 use Rattle.instructions.specs.Turn.{turnAnswer}
-use Rattle.instructions.proofs.Turns.{load-settles, jump-settles, call-settles, return-settles, branch-settles}
+use Rattle.instructions.proofs.Turns.{load-settles, jump-settles, call-settles}
+use Rattle.instructions.proofs.Jumps.{jumping, moving-on, leaving-by}
 use Rattle.instructions.proofs.turn.effect.Statement.{statement}
 use Rattle.instructions.proofs.turn.effect.Tie as tie
 
@@ -50,23 +51,14 @@ returns-2 c =
     let e = rw (u .value .ensures) at (v .save .ensures) in
     simp (sym (j .before .is-load .ensures) ∙ j .if1 .left, sym (i .before .is-store .ensures) ∙ i .if2 .taken) (e .0 (a .pointers), e .1)
 
-onward-requires : tie.Need-onward-requires
-onward-requires c κs = search needs
+jumps-requires : tie.Need-jumps-requires
+jumps-requires c κs = search needs
 
-jump-requires : tie.Need-jump-requires
-jump-requires c κs = search needs
+jump-check-requires : tie.Need-jump-check-requires
+jump-check-requires c κs = search needs
 
-call-requires : tie.Need-call-requires
-call-requires c κs = search needs
-
-give-back-requires : tie.Need-give-back-requires
-give-back-requires c κs = search needs
-
-taken-requires : tie.Need-taken-requires
-taken-requires c κs = search needs
-
-branch-requires : tie.Need-branch-requires
-branch-requires c κs = search needs
+stay-requires : tie.Need-stay-requires
+stay-requires c κs = search needs
 
 -- where the opcode neither reads into A nor stores
 no-load : (e : tie.Else2) → isLoad (e .before .before .before .before .before .args .opcode) ≡ false
@@ -76,51 +68,77 @@ no-store : (e : tie.Else2) → isStore (e .before .before .before .before .befor
 no-store e = sym (e .before .is-store .ensures) ∙ e .if2 .left
 
 returns-3 : tie.Need-returns-3
-unfolding effectOf
 returns-3 c =
-    let m = c .before in
-    let e = m .before in
-    let a = e .before .before .before .before .before .args in
-    simp (no-load e, no-store e) (rw (m .match .keys1) (ap (turnAnswer (a .pointers)) (c .onward .ensures), refl))
-
-returns-4 : tie.Need-returns-4
-unfolding effectOf
-returns-4 c =
-    let m = c .before in
-    let e = m .before in
+    let i = c .before in
+    let k = i .before in
+    let j = k .before in
+    let e = j .before .before in
     let a = e .before .before .before .before .before .args in
     let s = jump-settles (a .lengths .now) (a .gates .now) (a .rights .now) (a .stacks .now) (a .bases .now) (a .words .now) (a .depth) (a .frame) (a .r) (a .pointers) (a .p) in
-    simp (no-load e, no-store e) (rw (m .match .keys2) (c .jump .ensures (a .pointers) ∙ sym (s .there), sym (s .words-stay)))
+    let d = jumping (a .lengths .now) (a .gates .now) (a .rights .now) (a .stacks .now) (a .depth) (a .r) (a .pointers) (readOf (a .lengths .now) (a .rights .now) (a .bases .now) (a .words .now) (a .r .domain) (a .depth) (a .frame)) (a .opcode) (a .register) (a .p) (no-load e) (no-store e) (sym (j .before .jumps .ensures) ∙ j .if3 .taken) in
+    rw d (ap (turnAnswer (a .pointers)) (c .stay .ensures) ∙ simp (s .there, ← k .jump-check .ensures, ne-eqb _ _ (i .if4 .taken)), sym (s .words-stay))
+
+go-to-requires : tie.Need-go-to-requires
+go-to-requires c κs = search needs
+
+returns-4 : tie.Need-returns-4
+returns-4 c =
+    let i = c .before in
+    let k = i .before in
+    let j = k .before in
+    let e = j .before .before in
+    let a = e .before .before .before .before .before .args in
+    let s = jump-settles (a .lengths .now) (a .gates .now) (a .rights .now) (a .stacks .now) (a .bases .now) (a .words .now) (a .depth) (a .frame) (a .r) (a .pointers) (a .p) in
+    let d = jumping (a .lengths .now) (a .gates .now) (a .rights .now) (a .stacks .now) (a .depth) (a .r) (a .pointers) (readOf (a .lengths .now) (a .rights .now) (a .bases .now) (a .words .now) (a .r .domain) (a .depth) (a .frame)) (a .opcode) (a .register) (a .p) (no-load e) (no-store e) (sym (j .before .jumps .ensures) ∙ j .if3 .taken) in
+    rw d (ap (turnAnswer (a .pointers)) (c .go-to .ensures) ∙ simp (s .there, ← k .jump-check .ensures, eq-eqb _ _ (i .if4 .left)), sym (s .words-stay))
+
+onward-requires : tie.Need-onward-requires
+onward-requires c κs = search needs
+
+call-requires : tie.Need-call-requires
+call-requires c κs = search needs
+
+stay-requires-2 : tie.Need-stay-requires-2
+stay-requires-2 c κs = search needs
+
+onward-requires-2 : tie.Need-onward-requires-2
+onward-requires-2 c κs = search needs
 
 returns-5 : tie.Need-returns-5
 unfolding effectOf
 returns-5 c =
     let m = c .before in
-    let e = m .before in
+    let e = m .before .before .before in
     let a = e .before .before .before .before .before .args in
-    let s = call-settles (a .lengths .now) (a .gates .now) (a .rights .now) (a .stacks .now) (a .bases .now) (a .words .now) (a .depth) (a .frame) (a .r) (a .pointers) (a .p) in
-    simp (no-load e, no-store e) (rw (m .match .keys3) (c .call .ensures (a .pointers) ∙ sym (s .there), sym (s .words-stay)))
+    simp (no-load e, no-store e) (rw (m .match .keys1) (ap (turnAnswer (a .pointers)) (c .onward .ensures), refl))
 
 returns-6 : tie.Need-returns-6
 unfolding effectOf
 returns-6 c =
     let m = c .before in
-    let e = m .before in
+    let e = m .before .before .before in
     let a = e .before .before .before .before .before .args in
-    let s = return-settles (a .lengths .now) (a .gates .now) (a .rights .now) (a .stacks .now) (a .bases .now) (a .words .now) (a .depth) (a .frame) (a .r) (a .pointers) (a .p) in
-    simp (no-load e, no-store e) (rw (m .match .keys4) (c .give-back .ensures (a .pointers) ∙ sym (s .there), sym (s .words-stay)))
+    let s = call-settles (a .lengths .now) (a .gates .now) (a .rights .now) (a .stacks .now) (a .bases .now) (a .words .now) (a .depth) (a .frame) (a .r) (a .pointers) (a .p) in
+    simp (no-load e, no-store e) (rw (m .match .keys2) (c .call .ensures (a .pointers) ∙ sym (s .there), sym (s .words-stay)))
 
 returns-7 : tie.Need-returns-7
-unfolding effectOf
 returns-7 c =
-    let t = c .before in
-    let m = t .before in
-    let e = m .before in
+    let m = c .before in
+    let j = m .before in
+    let e = j .before .before in
     let a = e .before .before .before .before .before .args in
-    let s = branch-settles (a .lengths .now) (a .gates .now) (a .rights .now) (a .stacks .now) (a .bases .now) (a .words .now) (a .depth) (a .frame) (a .r) (a .pointers) (takenOf (a .opcode) (a .r .a)) (a .p) in
+    let d = leaving-by (a .lengths .now) (a .gates .now) (a .rights .now) (a .stacks .now) (a .depth) (a .r) (a .pointers) (readOf (a .lengths .now) (a .rights .now) (a .bases .now) (a .words .now) (a .r .domain) (a .depth) (a .frame)) (a .opcode) (a .register) (a .p) (no-load e) (no-store e) (sym (j .before .jumps .ensures) ∙ j .if3 .left) (m .match .keys3) in
+    rw d (ap (turnAnswer (a .pointers)) (c .stay2 .ensures), refl)
+
+returns-8 : tie.Need-returns-8
+returns-8 c =
+    let m = c .before in
+    let j = m .before in
+    let e = j .before .before in
+    let a = e .before .before .before .before .before .args in
     let n = m .match .rest in
-    simp (no-load e, no-store e, ne-eqb _ _ (n .0 .0 .0 .1), ne-eqb _ _ (n .0 .0 .1), ne-eqb _ _ (n .0 .1), ne-eqb _ _ (n .1))
-    ((rw (t .taken .ensures) at (c .branch .ensures)) (a .pointers) ∙ sym (s .there), sym (s .words-stay))
+    let d = moving-on (a .lengths .now) (a .gates .now) (a .rights .now) (a .stacks .now) (a .depth) (a .r) (a .pointers) (readOf (a .lengths .now) (a .rights .now) (a .bases .now) (a .words .now) (a .r .domain) (a .depth) (a .frame)) (a .opcode) (a .register) (a .p) (no-load e) (no-store e) (sym (j .before .jumps .ensures) ∙ j .if3 .left) (ne-eqb _ _ (n .0 .0 .1)) (ne-eqb _ _ (n .0 .1)) (ne-eqb _ _ (n .1)) in
+    rw d (ap (turnAnswer (a .pointers)) (c .onward2 .ensures), refl)
 
 pub effect-spec : {M : Type 1} → statement M
 effect-spec =
@@ -135,14 +153,17 @@ effect-spec =
     save-requires
     same-length-2
     returns-2
-    onward-requires
-    jump-requires
-    call-requires
-    give-back-requires
-    taken-requires
-    branch-requires
+    jumps-requires
+    jump-check-requires
+    stay-requires
     returns-3
+    go-to-requires
     returns-4
+    onward-requires
+    call-requires
+    stay-requires-2
+    onward-requires-2
     returns-5
     returns-6
-    returns-7)
+    returns-7
+    returns-8)
