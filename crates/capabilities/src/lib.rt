@@ -21,19 +21,19 @@ fn is_granted(asked: bool, there: bool) -> bool
 pub fn covers(c: Capability, segment: u8, word: u16, length: u16, read: bool, write: bool) -> bool
     ensures { λ r. ⌜ r ≡ coversOf segment word length read write c ⌝ }
 {
-    if c.segment != segment {
+    if !is_granted(read, c.read) {
+        return false;
+    }
+    if !is_granted(write, c.write) {
         return false;
     }
     if word < c.word {
         return false;
     }
-    if (c.word as u32) + (c.length as u32) < (word as u32) + (length as u32) {
+    if c.segment != segment {
         return false;
     }
-    if !is_granted(read, c.read) {
-        return false;
-    }
-    is_granted(write, c.write)
+    (word as u32) + (length as u32) <= (c.word as u32) + (c.length as u32)
 }
 
 // The first of a frame's count capabilities that covers the words with the flags asked.

@@ -8,7 +8,7 @@ fn batch(all: &mut Comparison) -> Result<(), String> {
     let samples = samples();
     let short: Vec<Sample> = samples.iter().filter(|s| s.is_short()).cloned().collect();
     all.prefixes(&short)?;
-    all.changes(&short[..2])?;
+    all.changes(&short[..2], false)?;
     all.whole(&samples)?;
     all.short_memories(&samples)?;
     all.short_records(&samples)?;

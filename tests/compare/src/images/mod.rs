@@ -57,12 +57,13 @@ impl Comparison {
         Ok(())
     }
 
-    /// Reads the images with each byte changed.
-    pub fn changes(&mut self, samples: &[Sample]) -> Result<(), String> {
+    /// Reads the images with each byte changed, in the long ones to all other
+    /// values only if that is asked.
+    pub fn changes(&mut self, samples: &[Sample], all: bool) -> Result<(), String> {
         for sample in samples {
             let mut bytes = sample.bytes.clone();
             for place in 0..bytes.len() {
-                for byte in sample.changes(place) {
+                for byte in sample.changes(place, all) {
                     bytes[place] = byte;
                     self.read(&bytes)?;
                 }
@@ -198,13 +199,14 @@ impl Comparison {
 pub fn compare_images(
     seed: u64,
     count: u64,
+    all_changes: bool,
     mut progress: impl FnMut(&str, &Tally),
 ) -> Result<Tally, String> {
     let samples = samples();
     let mut all = Comparison::new(seed)?;
     all.prefixes(&samples)?;
     progress("prefixes of ten images", &all.tally);
-    all.changes(&samples)?;
+    all.changes(&samples, all_changes)?;
     progress("changed bytes of ten images", &all.tally);
     all.whole(&samples)?;
     all.short_memories(&samples)?;

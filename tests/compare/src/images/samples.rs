@@ -23,12 +23,12 @@ impl Sample {
         Sample { bytes, is_field }
     }
 
-    /// What the byte at a place is changed to: in a short image all other
-    /// values, in a long one each bit of a field turned, and one other value
-    /// of a byte in a word.
-    pub fn changes(&self, place: usize) -> Vec<u8> {
+    /// What the byte at a place is changed to: all other values in a short
+    /// image, and in any if that is asked; else each bit of a field turned,
+    /// and one other value of a byte in a word.
+    pub fn changes(&self, place: usize, all: bool) -> Vec<u8> {
         let byte = self.bytes[place];
-        if self.is_short() {
+        if all || self.is_short() {
             (1..=255).map(|change| byte ^ change).collect()
         } else if self.is_field[place] {
             (0..8).map(|bit| byte ^ (1 << bit)).collect()
