@@ -14,10 +14,11 @@ use Rattle.state.specs.Record.{noPointer, noCapability, inUse, liveFrame}
 use Rattle.machine.specs.declared.flag.Flag.the-variants as flag
 use Rattle.machine.specs.Static.{staticOf}
 use Rattle.machine.specs.Reference.{accept}
-use Rattle.instructions.specs.Reader.{Reader}
-use Rattle.instructions.specs.Instruction.{withBase, gateDomainOf, stackOf}
+use Rattle.memory.specs.Reader.{Reader}
+use Rattle.pointers.specs.Stack.{withBase, stackOf}
+use Rattle.transfers.specs.Transfer.{gateDomainOf}
 use Rattle.crossings.specs.declared.crossing.Crossed.{Crossed}
-use Rattle.crossings.specs.ArgumentList.{frameOf}
+use Rattle.arguments.specs.ArgumentList.{frameOf}
 
 -- a frame that is not in use
 abbrev pub freeFrame : Frame

@@ -1,3 +1,2 @@
 // Crossings: calls through a gate and returns across domains.
-pub mod arguments;
 pub mod crossing;

@@ -6,7 +6,7 @@ use borrow.Author.Tests.{le-leb, lt-leb}
 use lib.ListN.{length, drop}
 use Rattle.words.specs.Answer.{Answer, refuse, ok}
 use Rattle.image.specs.Bytes.{pairBytes}
-use Rattle.image.specs.Writer.{outputAfter}
+use Rattle.image_writer.specs.Writer.{outputAfter}
 use Rattle.entry.specs.ImageRun.{Final, imageRun}
 use Rattle.entry.specs.Entry.{resultBytes, entryOf, numberOf}
 

@@ -9,12 +9,13 @@ use lib.ListN.{length, drop, replicate, length-append, length-drop, length-repli
 use Rattle.words.specs.Answer.{Answer, refuse, ok, _>>=_}
 use Rattle.state.specs.declared.record.Machine.{Machine}
 use Rattle.soundness.specs.Sound.{soundTest}
-use Rattle.soundness.specs.Fresh.{freshOf}
-use Rattle.processor.specs.Run.{refused, runOf, judged, calledOf, runCall}
+use Rattle.fresh.specs.Fresh.{freshOf}
+use Rattle.runs.specs.Run.{refused, judged, calledOf}
+use Rattle.processor.specs.Calls.{runOf, runCall}
 use Rattle.image.specs.Segment.{allWords}
 use Rattle.image.specs.Image.{Image, imageOf, layoutOf}
-use Rattle.image.specs.Reader.{readOf, machineAfter, memoryAfter}
-use Rattle.image.specs.declared.reader.ReadAnswer.{ReadAnswer}
+use Rattle.image_reader.specs.Reader.{readOf, machineAfter, memoryAfter}
+use Rattle.image_reader.specs.declared.ReadAnswer.{ReadAnswer}
 use Rattle.roundtrips.proofs.Accepted.{accepted}
 use Rattle.roundtrips.proofs.AcceptedSound.{accepted-sound}
 use Rattle.entry.specs.ImageRun.{Final, finalOf, memoryOf, machineRun, imageRun, emptyMachine, closed}

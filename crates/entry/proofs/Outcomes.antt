@@ -4,11 +4,11 @@ use native.Mathlib.Omega.{arith}
 use mathlib.Core.List.{List}
 use mathlib.Core.Path.{_≡_, refl, sym, ap, subst, _∙_}
 use Rattle.words.specs.Answer.{Answer, refuse, ok}
-use Rattle.processor.specs.declared.outcome.End.{End}
-use Rattle.processor.specs.declared.outcome.End.the-variants as end
-use Rattle.processor.specs.declared.outcome.Outcome.{Outcome}
-use Rattle.processor.specs.Run.{Ending, halted, spent, crossed, faulted, refused}
-use Rattle.processor.specs.Rest.{endAnswer}
+use Rattle.runs.specs.declared.outcome.End.{End}
+use Rattle.runs.specs.declared.outcome.End.the-variants as end
+use Rattle.runs.specs.declared.outcome.Outcome.{Outcome}
+use Rattle.runs.specs.Run.{Ending, halted, spent, crossed, faulted, refused}
+use Rattle.runs.specs.Rest.{endAnswer}
 use Rattle.entry.specs.ImageRun.{Final, outcomeAnswer, imageRun, closed}
 use Rattle.entry.proofs.Endings.{Listed, image-ends}
 

@@ -5,7 +5,7 @@ use lib.Dec.{leb}
 use lib.ListN.{length}
 use Rattle.words.specs.Answer.{Answer, refuse, ok, _>>=_, _>>_, require}
 use Rattle.words.specs.Numbers.{outputTooShort}
-use Rattle.processor.specs.Run.{Ending, halted, spent, crossed, faulted, refused}
+use Rattle.runs.specs.Run.{Ending, halted, spent, crossed, faulted, refused}
 use Rattle.image.specs.Bytes.{pairBytes}
 use Rattle.entry.specs.ImageRun.{Final, imageRun}
 

@@ -5,12 +5,13 @@ use lib.ListN.{replicate}
 use Rattle.words.specs.Answer.{Answer, refuse, ok, _>>=_}
 use Rattle.state.specs.declared.record.Layout.{Layout}
 use Rattle.state.specs.declared.record.Machine.{Machine}
-use Rattle.soundness.specs.Fresh.{freshOf}
-use Rattle.processor.specs.declared.outcome.Outcome.{Outcome}
-use Rattle.processor.specs.Run.{Ending, refused, Ran, runOf}
-use Rattle.processor.specs.Rest.{endAnswer}
+use Rattle.fresh.specs.Fresh.{freshOf}
+use Rattle.runs.specs.declared.outcome.Outcome.{Outcome}
+use Rattle.runs.specs.Run.{Ending, refused, Ran}
+use Rattle.processor.specs.Calls.{runOf}
+use Rattle.runs.specs.Rest.{endAnswer}
 use Rattle.image.specs.Image.{Image, imageOf, layoutOf}
-use Rattle.image.specs.Reader.{memoryAfter}
+use Rattle.image_reader.specs.Reader.{memoryAfter}
 
 -- what a run comes to, without its words
 pub record Final : Type 0 where

@@ -1,11 +1,11 @@
 // An image, run in a memory of its own.
 ghost use mathlib.Core.Path.{_≡_};
 ghost use Rattle.entry.specs.ImageRun.{emptyMachine, outcomeAnswer, imageRun, closed};
-use image::reader::read;
-use processor::outcome::End;
-use processor::outcome::Outcome;
-use processor::run::run;
-use soundness::fresh::fresh;
+use fresh::fresh;
+use image_reader::read;
+use processor::run;
+use runs::outcome::End;
+use runs::outcome::Outcome;
 use state::record::Layout;
 use state::record::Machine;
 use state::record::Start;

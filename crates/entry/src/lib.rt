@@ -5,12 +5,12 @@ ghost use mathlib.Core.Path.{_≡_};
 ghost use mathlib.Core.List.{_∷_, _++_};
 ghost use Prim.Native.Nat.{_≤_};
 ghost use lib.ListN.{length, drop};
-ghost use Rattle.processor.specs.Rest.{endAnswer};
+ghost use Rattle.runs.specs.Rest.{endAnswer};
 ghost use Rattle.image.specs.Bytes.{pairBytes};
-ghost use Rattle.image.specs.Writer.{outputAfter};
+ghost use Rattle.image_writer.specs.Writer.{outputAfter};
 ghost use Rattle.entry.specs.Entry.{endingByte, faultByte, entryOf, numberOf};
 use crate::image_run::run_image;
-use processor::outcome::End;
+use runs::outcome::End;
 
 fn ending_byte(end: End) -> u8
     ensures { λ r. ⌜ r ≡ endingByte (endAnswer end) ⌝ }

@@ -19,7 +19,7 @@ use Rattle.state.specs.Record.{noCapability}
 use Rattle.soundness.proofs.Facts.{PointerSound, CapabilitySound}
 use Rattle.capabilities.specs.Search.{firstOf, coversOf}
 use Rattle.machine.specs.Live.{liveMatch, passedOf}
-use Rattle.crossings.specs.ArgumentList.{sourceOf, capabilityOf}
+use Rattle.arguments.specs.ArgumentList.{sourceOf, capabilityOf}
 use Rattle.executions.proofs.Says.{Says, says-bind, says-if}
 
 -- a mode word for an argument that starts at a word number

@@ -28,8 +28,8 @@ use Rattle.capabilities.specs.Search.{firstOf, coversOf}
 use Rattle.machine.specs.Live.{liveMatch, sourced, liveOf}
 use Rattle.machine.specs.Reference.{accept, indexOf, verdictOf, locateOf, referenceOf}
 use Rattle.machine.specs.Machine.{check}
-use Rattle.instructions.specs.Reader.{readOf, fetchOf, readWord, fetch}
-use Rattle.instructions.specs.Effective.{displacedBy}
+use Rattle.memory.specs.Reader.{readOf, fetchOf, readWord, fetch}
+use Rattle.addressing.specs.Effective.{displacedBy}
 use Rattle.executions.proofs.Parts.{live}
 use Rattle.executions.proofs.Fails.{Fails, Judged, passes, judged-if, fails-require, fails-if, fails-accept, fails-bind, fails-past}
 

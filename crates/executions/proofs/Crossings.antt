@@ -19,8 +19,9 @@ use Rattle.soundness.proofs.Kept.{pointer-set, frame-pushed, frame-popped}
 use Rattle.machine.specs.declared.flag.Flag.the-variants as flag
 use Rattle.machine.specs.Static.{exists, staticOf}
 use Rattle.machine.proofs.Passes.{both, static-exists}
-use Rattle.instructions.specs.Reader.{Reader}
-use Rattle.instructions.specs.Instruction.{gateDomainOf, stackOf}
+use Rattle.memory.specs.Reader.{Reader}
+use Rattle.transfers.specs.Transfer.{gateDomainOf}
+use Rattle.pointers.specs.Stack.{stackOf}
 use Rattle.crossings.specs.Crossing.{tagged, withTag, freeFrame, entered, left, samePlace, leaveCheck, enterOf, leaveOf}
 use Rattle.executions.proofs.Says.{Says, says-bind, says-accept}
 use Rattle.executions.proofs.Plans.{base-sound, exists-sound}

@@ -7,8 +7,9 @@ use borrow.Author.Tests.{ne-eqb}
 use lib.Dec.{eqb}
 use Rattle.words.specs.Answer.{Answer, refuse, ok, if_then_else_}
 use Rattle.state.specs.declared.record.Machine.{Machine}
-use Rattle.processor.specs.Step.{Event, stopped, moved, crossing, Done, execute}
-use Rattle.processor.specs.Run.{Ran, ran, Ending, halted, spent, crossed, faulted, refused, after, afterEvent, runFrom, runOf, stretchOf, judged, calledOf, runCall, stretchCall, Step, stepped, stepCall}
+use Rattle.runs.specs.Step.{Event, stopped, moved, crossing, Done, execute}
+use Rattle.runs.specs.Run.{Ran, ran, Ending, halted, spent, crossed, faulted, refused, after, afterEvent, runFrom, judged, calledOf}
+use Rattle.processor.specs.Calls.{runOf, stretchOf, runCall, stretchCall, Step, stepped, stepCall}
 
 -- a step with this number that changed nothing
 abbrev pub nothing : Machine → List ℕ → ℕ → Step

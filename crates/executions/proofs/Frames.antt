@@ -18,9 +18,9 @@ use Rattle.state.specs.declared.record.Frame.{Frame}
 use Rattle.state.specs.Record.{noCapability}
 use Rattle.soundness.specs.Sound.{emptyCapability}
 use Rattle.soundness.proofs.Facts.{PointerSound, CapabilitySound, FrameSound}
-use Rattle.instructions.specs.Reader.{Reader}
-use Rattle.instructions.specs.Effective.{displacedBy}
-use Rattle.crossings.specs.ArgumentList.{listWord, listPointer, capabilityOf, argumentOf, argumentsFrom, listCapability, filledOf, frameAfter, frameOf}
+use Rattle.memory.specs.Reader.{Reader}
+use Rattle.addressing.specs.Effective.{displacedBy}
+use Rattle.arguments.specs.ArgumentList.{listWord, listPointer, capabilityOf, argumentOf, argumentsFrom, listCapability, filledOf, frameAfter, frameOf}
 use Rattle.executions.proofs.Says.{Says, says-bind, says-past, says-then, says-require}
 use Rattle.executions.proofs.Pointers.{word-pointer, moved-most}
 use Rattle.executions.proofs.Arguments.{LiveSound, capability-sound}

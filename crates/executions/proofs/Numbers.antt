@@ -14,11 +14,12 @@ use Rattle.state.specs.Record.{noPointer, inUse}
 use Rattle.machine.specs.declared.flag.Flag.the-variants as flag
 use Rattle.machine.specs.declared.flag.Access.the-variants as access
 use Rattle.machine.specs.Machine.{check}
-use Rattle.instructions.specs.Reader.{Reader, readWord, fetch}
+use Rattle.memory.specs.Reader.{Reader, readWord, fetch}
 use Rattle.instructions.specs.Plan.{Plan, halt, move, store, enter, leave}
 use Rattle.crossings.specs.Crossing.{left, samePlace, leaveCheck, enterOf, leaveOf}
-use Rattle.processor.specs.Step.{Act, stop, proceed, put, cross, resolve, decide, commit, execute}
-use Rattle.processor.specs.Run.{faulted, runFrom, judged, stepped, stepCall}
+use Rattle.runs.specs.Step.{Act, stop, proceed, put, cross, resolve, decide, commit, execute}
+use Rattle.runs.specs.Run.{faulted, runFrom, judged}
+use Rattle.processor.specs.Calls.{stepped, stepCall}
 use Rattle.executions.proofs.Faults.{run-faulted}
 use Rattle.executions.proofs.Parts.{live, planned, frameFor, leaveNumber}
 use Rattle.executions.proofs.Fails.{Fault, Fails, judged-if, fails-accept, refused, fails-bind}

@@ -6,10 +6,10 @@ use Rattle.words.specs.declared.pointer.Pointer.{Pointer}
 use Rattle.state.specs.declared.record.Frame.{Frame}
 use Rattle.state.specs.declared.record.Machine.{Machine}
 use Rattle.state.specs.Record.{noPointer, inUse, liveFrame}
-use Rattle.instructions.specs.Reader.{Reader}
+use Rattle.memory.specs.Reader.{Reader}
 use Rattle.instructions.specs.Plan.{Plan}
 use Rattle.instructions.specs.Instruction.{planOf}
-use Rattle.crossings.specs.ArgumentList.{frameOf}
+use Rattle.arguments.specs.ArgumentList.{frameOf}
 use Rattle.crossings.specs.Crossing.{leaveCheck}
 
 module _ (m : Machine) where

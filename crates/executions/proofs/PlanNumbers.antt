@@ -22,11 +22,12 @@ use Rattle.machine.specs.Flag.{has}
 use Rattle.machine.specs.Static.{exists, rightsOf, staticOf}
 use Rattle.capabilities.specs.Search.{coversOf}
 use Rattle.machine.specs.Live.{liveMatch, passedOf}
-use Rattle.instructions.specs.Reader.{Reader}
-use Rattle.instructions.specs.Effective.{displacedBy, throughOf, effectiveOf}
+use Rattle.memory.specs.Reader.{Reader}
+use Rattle.addressing.specs.Effective.{displacedBy, throughOf, effectiveOf}
 use Rattle.instructions.specs.Plan.{enter, leave}
-use Rattle.instructions.specs.Instruction.{jumpOf, callWay, callOf, returnOf, loadOf, branchOf, isLoad, isStore, takenOf, effectOf, executeOf, planOf, jumpCheck, gatesOf}
-use Rattle.crossings.specs.ArgumentList.{listWord, listPointer, sourceOf, capabilityOf, argumentOf, argumentsFrom, frameAfter, frameOf}
+use Rattle.instructions.specs.Instruction.{jumpOf, callOf, returnOf, loadOf, branchOf, isLoad, isStore, takenOf, effectOf, executeOf, planOf}
+use Rattle.transfers.specs.Transfer.{callWay, jumpCheck, gatesOf}
+use Rattle.arguments.specs.ArgumentList.{listWord, listPointer, sourceOf, capabilityOf, argumentOf, argumentsFrom, frameAfter, frameOf}
 use Rattle.executions.proofs.Fails.{Fails, judged-if, fails-require, fails-if, fails-accept, fails-bind, fails-past}
 use Rattle.executions.proofs.CheckNumbers.{static-judged, match-fails, pointer-fails, instruction-fails, mode-fails, moved-fails}
 

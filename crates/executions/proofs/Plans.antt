@@ -18,10 +18,12 @@ use Rattle.machine.specs.declared.flag.Flag.the-variants as flag
 use Rattle.machine.specs.Flag.{has}
 use Rattle.machine.specs.Static.{exists, rightsOf, staticOf}
 use Rattle.machine.proofs.Passes.{static-exists, exists-facts, never}
-use Rattle.instructions.specs.Reader.{Reader}
-use Rattle.instructions.specs.Effective.{effectiveOf}
+use Rattle.memory.specs.Reader.{Reader}
+use Rattle.addressing.specs.Effective.{effectiveOf}
 use Rattle.instructions.specs.Plan.{Plan, halt, move, store, enter, leave}
-use Rattle.instructions.specs.Instruction.{jumpOf, callWay, callOf, returnOf, loadOf, branchOf, isLoad, isStore, takenOf, effectOf, executeOf, planOf, jumpCheck, gatesOf, withBase, stackOf}
+use Rattle.instructions.specs.Instruction.{jumpOf, callOf, returnOf, loadOf, branchOf, isLoad, isStore, takenOf, effectOf, executeOf, planOf}
+use Rattle.transfers.specs.Transfer.{callWay, jumpCheck, gatesOf}
+use Rattle.pointers.specs.Stack.{withBase, stackOf}
 use Rattle.executions.proofs.Says.{Says, says-bind, says-then, says-if, says-accept}
 use Rattle.executions.proofs.Pointers.{BaseLt, base-lt, effective-sound}
 

@@ -16,8 +16,8 @@ use Rattle.words.specs.declared.instruction.Instruction.{Instruction}
 use Rattle.words.proofs.Fields.{field-lt}
 use Rattle.state.specs.Record.{noPointer}
 use Rattle.soundness.proofs.Facts.{PointerSound, PointersSound}
-use Rattle.instructions.specs.Reader.{Reader}
-use Rattle.instructions.specs.Effective.{displacedBy, throughOf, effectiveOf}
+use Rattle.memory.specs.Reader.{Reader}
+use Rattle.addressing.specs.Effective.{displacedBy, throughOf, effectiveOf}
 use Rattle.executions.proofs.Says.{Says, says-bind, says-then, says-skip, says-require, says-if}
 
 -- the pointer in a word

@@ -5,8 +5,8 @@ use mathlib.Core.List.{List}
 use mathlib.Core.Path.{_≡_, refl}
 use Rattle.words.specs.Answer.{Answer, refuse, ok}
 use Rattle.state.specs.declared.record.Machine.{Machine}
-use Rattle.processor.specs.Step.{Event, stopped, moved, crossing, Done, execute}
-use Rattle.processor.specs.Run.{Ran, after, afterEvent, runFrom}
+use Rattle.runs.specs.Step.{Event, stopped, moved, crossing, Done, execute}
+use Rattle.runs.specs.Run.{Ran, after, afterEvent, runFrom}
 
 module _ (Kept : Machine → List ℕ → Type 0) (step : (m : Machine) (words : List ℕ) (d : Done) → execute m words ≡ ok d → Kept m words → Kept (d .machine) (d .words)) where
   abbrev KeptBy : Ran → Type 0

@@ -17,11 +17,11 @@ use Rattle.machine.specs.Static.{staticOf}
 use Rattle.machine.specs.Reference.{indexOf, accept, locateOf}
 use Rattle.machine.specs.Machine.{check}
 use Rattle.machine.proofs.Passes.{static-exists, exists-facts}
-use Rattle.instructions.specs.Reader.{Reader, readWord, fetch, fetchOf}
+use Rattle.memory.specs.Reader.{Reader, readWord, fetch, fetchOf}
 use Rattle.instructions.specs.Plan.{Plan, halt, move, store, enter, leave}
 use Rattle.crossings.specs.Crossing.{enterOf, leaveOf}
-use Rattle.processor.specs.Step.{Act, stop, proceed, put, cross, Done, movedTo, resolve, decide, commit, execute}
-use Rattle.processor.specs.Run.{runFrom}
+use Rattle.runs.specs.Step.{Act, stop, proceed, put, cross, Done, movedTo, resolve, decide, commit, execute}
+use Rattle.runs.specs.Run.{runFrom}
 use Rattle.executions.proofs.Says.{Says, said, says-bind, says-then, says-accept}
 use Rattle.executions.proofs.Runs.{run-keeps}
 use Rattle.executions.proofs.Parts.{planned}

@@ -6,8 +6,8 @@ use mathlib.Core.List.{List}
 use mathlib.Core.Path.{_≡_, refl, ap, _∙_}
 use Rattle.words.specs.Answer.{Answer, refuse, ok}
 use Rattle.state.specs.declared.record.Machine.{Machine}
-use Rattle.processor.specs.Step.{Event, stopped, moved, crossing, Done, execute}
-use Rattle.processor.specs.Run.{Ran, Ending, halted, spent, crossed, faulted, refused, after, afterEvent, runFrom}
+use Rattle.runs.specs.Step.{Event, stopped, moved, crossing, Done, execute}
+use Rattle.runs.specs.Run.{Ran, Ending, halted, spent, crossed, faulted, refused, after, afterEvent, runFrom}
 use Rattle.processor.specs.Steps.{onward}
 
 module _ (k n : ℕ) where

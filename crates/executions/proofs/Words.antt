@@ -14,11 +14,11 @@ use Rattle.state.specs.Bases.{wordsIn}
 use Rattle.machine.specs.declared.flag.Access.the-variants as access
 use Rattle.machine.specs.Machine.{check}
 use Rattle.machine.proofs.Places.{check-lt}
-use Rattle.instructions.specs.Reader.{Reader, readWord, fetch}
+use Rattle.memory.specs.Reader.{Reader, readWord, fetch}
 use Rattle.instructions.specs.Plan.{Plan, halt, move, store, enter, leave}
 use Rattle.crossings.specs.Crossing.{enterOf, leaveOf, entered, left}
-use Rattle.processor.specs.Step.{Act, stop, proceed, put, cross, Done, resolve, decide, commit, execute}
-use Rattle.processor.specs.Run.{runFrom}
+use Rattle.runs.specs.Step.{Act, stop, proceed, put, cross, Done, resolve, decide, commit, execute}
+use Rattle.runs.specs.Run.{runFrom}
 use Rattle.executions.proofs.Parts.{live, planned, frameFor, leaveNumber}
 use Rattle.executions.proofs.Says.{Says, itself, said, says-bind, says-then, says-accept}
 use Rattle.executions.proofs.Runs.{run-keeps}

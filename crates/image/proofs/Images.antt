@@ -16,7 +16,7 @@ use Rattle.image.specs.Head.{located, headFields, headBody, headRead, he
 use Rattle.image.specs.Segment.{Segment, segmentOf, segmentsOf}
 use Rattle.image.specs.Domain.{Domain, domainOf, domainsOf}
 use Rattle.image.specs.Image.{Image, endOf, imageOf}
-use Rattle.image.specs.declared.head.Head.{Head}
+use Rattle.image.specs.declared.Head.{Head}
 use Rattle.image.proofs.Answers.{no-value, passed, test, after, bound, the-value}
 use Rattle.image.proofs.Chunks.{chunk-facts, exact-size}
 

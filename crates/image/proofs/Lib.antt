@@ -5,12 +5,6 @@ pub mod Padded
 pub mod Joined
 pub mod Bodies
 pub mod Segments
-pub mod Runs
-pub mod SegmentRows
-pub mod Rights
-pub mod DomainRows
 pub mod Images
-pub mod Stores
-pub mod Judged
 pub mod Written
 pub mod Sizes

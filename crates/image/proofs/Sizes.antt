@@ -16,7 +16,7 @@ use Rattle.image.specs.Head.{headBytes}
 use Rattle.image.specs.Segment.{Segment, segmentBytes, segmentsBytes}
 use Rattle.image.specs.Domain.{Domain, domainBytes, domainsBytes}
 use Rattle.image.specs.Image.{rowsFrom, segmentAt, domainAt, segmentsIn, domainsIn, imageFrom, bytesOf}
-use Rattle.image.specs.declared.head.Head.{Head}
+use Rattle.image.specs.declared.Head.{Head}
 use Rattle.image.proofs.Joined.{joined-snoc, rows-next, rows-length}
 use Rattle.image.proofs.Written.{words-size}
 

@@ -3,13 +3,9 @@ use Prim.Native.Nat.{ℕ, _+_}
 use mathlib.Core.List.{List, _++_}
 use lib.Dec.{eqb, leb}
 use lib.ListN.{length, take, drop}
-use Rattle.words.specs.Answer.{Answer, refuse, ok, _>>=_, _>>_, require}
+use Rattle.words.specs.Answer.{Answer, ok, _>>=_, _>>_, require}
 use Rattle.words.specs.Numbers.{cutShort, wrongKind, wrongLength}
 use Rattle.image.specs.Bytes.{pairOf, pairBytes}
-use Rattle.image.specs.declared.chunk.HeaderAnswer.{HeaderAnswer}
-use Rattle.image.specs.declared.chunk.HeaderAnswer.the-variants as header
-use Rattle.image.specs.declared.chunk.Verdict.{Verdict}
-use Rattle.image.specs.declared.chunk.Verdict.the-variants as verdict
 
 -- what was read from the front of some bytes, and the bytes after it
 pub record Read (A : Type 0) : Type 0 where
@@ -41,17 +37,3 @@ exactly n found = require (eqb found n) wrongLength
 -- the bytes of a chunk
 unfoldable pub chunkBytes : ℕ → List ℕ → List ℕ
 chunkBytes kind body = pairBytes (length body) ++ (pairBytes kind ++ body)
-
--- what the code's answer stands for: a length, or a refusal
-abbrev pub headerAnswer : HeaderAnswer → Answer ℕ
-headerAnswer (header.Length n) = ok n
-headerAnswer (header.Refused n) = refuse n
-
--- what the code's verdict stands for
-abbrev pub verdictAnswer : Verdict → Answer (Unit {0})
-verdictAnswer verdict.Passed = ok tt
-verdictAnswer (verdict.Refused n) = refuse n
-
--- the chunk of length n, where the code passed it
-abbrev pub chunkAnswer : ℕ → List ℕ → Verdict → Answer (Read (List ℕ))
-chunkAnswer n bytes v = verdictAnswer v >> ok (chunkAt n bytes)

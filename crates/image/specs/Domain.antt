@@ -3,13 +3,11 @@ use Prim.Native.Nat.{ℕ, zero, suc, _+_}
 use mathlib.Core.Bool.{Bool, true, _&&_}
 use mathlib.Core.List.{List, [], _∷_}
 use lib.Dec.{leb, ltb}
-use lib.ListN.{getD, take, drop}
-use Rattle.words.specs.Answer.{Answer, refuse, ok, _>>=_, _>>_, require}
+use lib.ListN.{getD, drop}
+use Rattle.words.specs.Answer.{Answer, ok, _>>=_, _>>_, require}
 use Rattle.words.specs.Numbers.{badField}
 use Rattle.image.specs.Bytes.{joined}
 use Rattle.image.specs.Chunk.{Read, chunkOf, chunkBytes, exactly}
-use Rattle.image.specs.declared.domain.DomainAnswer.{DomainAnswer}
-use Rattle.image.specs.declared.domain.DomainAnswer.the-variants as variant
 
 -- a domain of an image
 pub record Domain : Type 0 where
@@ -50,9 +48,3 @@ domainBytes d = chunkBytes 3 (d .stack ∷ d .rights)
 -- the bytes of domains, one after the other
 abbrev pub domainsBytes : List Domain → List ℕ
 domainsBytes = joined domainBytes
-
--- what the code's answer stands for: a domain of a chunk that begins at a place of the image
-abbrev pub domainAnswer : List ℕ → ℕ → ℕ → DomainAnswer → Answer (Read Domain)
-domainAnswer image at segments (variant.Stack s) =
-    ok (record { value = record { stack = s; rights = take segments (drop (at + 5) image) }; rest = drop (at + 5 + segments) image })
-domainAnswer image at segments (variant.Refused n) = refuse n

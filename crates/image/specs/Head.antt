@@ -11,9 +11,7 @@ use Rattle.state.specs.declared.record.Start.{Start}
 use Rattle.words.specs.Numbers.{badField}
 use Rattle.image.specs.Bytes.{wordOf, wordBytes}
 use Rattle.image.specs.Chunk.{Read, chunkOf, chunkBytes, exactly}
-use Rattle.image.specs.declared.head.Head.{Head}
-use Rattle.image.specs.declared.head.HeadAnswer.{HeadAnswer}
-use Rattle.image.specs.declared.head.HeadAnswer.the-variants as variant
+use Rattle.image.specs.declared.Head.{Head}
 
 -- an untagged pointer into a segment that exists
 abbrev pub located : ℕ → Answer Pointer → Answer Pointer
@@ -51,12 +49,3 @@ startWord s = pointerWord (record { word = s .word; segment = s .segment; tag = 
 -- the bytes of a head
 unfoldable pub headBytes : Head → List ℕ
 headBytes h = chunkBytes 1 (h .segments ∷ h .domains ∷ h .start .domain ∷ 0 ∷ wordBytes (startWord (h .start)))
-
--- what the code's answer stands for
-abbrev pub fieldsAnswer : HeadAnswer → Answer Head
-fieldsAnswer (variant.Head h) = ok h
-fieldsAnswer (variant.Refused n) = refuse n
-
--- the same for the whole chunk, which has 12 bytes
-abbrev pub headAnswer : List ℕ → HeadAnswer → Answer (Read Head)
-headAnswer bytes a = fieldsAnswer a >>= (λ h. ok (record { value = h; rest = drop 12 bytes }))

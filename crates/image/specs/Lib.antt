@@ -4,7 +4,4 @@ pub mod Head
 pub mod Segment
 pub mod Domain
 pub mod Image
-pub mod Rows
-pub mod Reader
 pub mod Output
-pub mod Writer

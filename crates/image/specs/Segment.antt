@@ -1,14 +1,12 @@
 -- Kind 2, one per segment: gate count (2 bytes), gate domain, 0, then its words.
-use Prim.Native.Nat.{ℕ, zero, suc, _+_, _-_, _/_, _%_}
+use Prim.Native.Nat.{ℕ, zero, suc, _-_, _/_, _%_}
 use mathlib.Core.List.{List, [], _∷_, _++_}
 use lib.Dec.{eqb, leb, ltb}
 use lib.ListN.{length, getD, drop}
-use Rattle.words.specs.Answer.{Answer, refuse, ok, _>>=_, _>>_, require}
+use Rattle.words.specs.Answer.{Answer, ok, _>>=_, _>>_, require}
 use Rattle.words.specs.Numbers.{wrongLength, tooManyWords, badField}
 use Rattle.image.specs.Bytes.{pairOf, pairBytes, wordsOf, wordsBytes, joined}
 use Rattle.image.specs.Chunk.{Read, chunkOf, chunkBytes}
-use Rattle.image.specs.declared.segment.SegmentAnswer.{SegmentAnswer}
-use Rattle.image.specs.declared.segment.SegmentAnswer.the-variants as variant
 
 -- a segment of an image
 pub record Segment : Type 0 where
@@ -67,12 +65,3 @@ segmentsBytes = joined segmentBytes
 -- the words of all segments, one after the other
 abbrev pub allWords : List Segment → List ℕ
 allWords = joined (λ s. s .words)
-
--- what the code's answer stands for: a row of a chunk that begins at a place of the image
-abbrev pub segmentAnswer : List ℕ → ℕ → SegmentAnswer → Answer (Read Segment)
-segmentAnswer image at (variant.Row r) =
-    ok (record {
-      value = record { gates = r .gates; domain = r .domain; words = wordsOf (r .length) (drop (at + 8) image) };
-      rest = drop (r .next) image;
-    })
-segmentAnswer image at (variant.Refused n) = refuse n

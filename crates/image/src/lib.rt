@@ -1,12 +1,8 @@
-// Images: the reader and the writer.
-mod bytes;
-mod chunk;
-mod chunk_output;
-mod domain;
-mod head;
-mod judge;
-mod output;
-pub mod reader;
-mod segment;
-mod store;
-pub mod writer;
+// Images: what kind 1 holds. The rest of the format is definitions and laws.
+use state::record::Start;
+
+pub struct Head {
+    pub start: Start,
+    pub segments: u8,
+    pub domains: u8,
+}

@@ -1,6 +1,2 @@
-pub mod Answers
-pub mod Accesses
-pub mod Transfers
 pub mod Turns
 pub mod Jumps
-pub mod Registers

@@ -9,11 +9,13 @@ use Rattle.words.specs.declared.pointer.Pointer.{Pointer}
 use Rattle.state.specs.declared.record.Frame.{Frame}
 use Rattle.state.specs.declared.record.Registers.{Registers}
 use Rattle.machine.specs.Reference.{accept}
-use Rattle.instructions.specs.Reader.{Reader}
+use Rattle.memory.specs.Reader.{Reader}
 use Rattle.instructions.specs.Plan.{Plan, move, enter}
-use Rattle.instructions.specs.Instruction.{jumpCheck, callWay, jumpOf, callOf, loadOf, next, operateOf, stackOf, withBase}
+use Rattle.transfers.specs.Transfer.{jumpCheck, callWay}
+use Rattle.instructions.specs.Instruction.{jumpOf, callOf, loadOf, next, operateOf}
+use Rattle.pointers.specs.Stack.{stackOf, withBase}
 use Rattle.instructions.specs.Turn.{Turned, moved, entering, registersAt, settled, settledAnswer, settledWords, loaded, called}
-use Rattle.instructions.proofs.Answers.{accept-then}
+use Rattle.memory.proofs.Answers.{accept-then}
 
 module _ (lengths gates rights stacks bases words : List ℕ) (depth : ℕ) (frame : Frame) (r : Registers) (pointers : List Pointer) where
   abbrev to : Answer Plan → Answer Turned

@@ -2,10 +2,9 @@
 use Prim.Native.Nat.{ℕ, zero, suc, _+_, _^_}
 use mathlib.Core.Bool.{Bool, true, false, not, _||_}
 use mathlib.Core.List.{List}
-use lib.Dec.{eqb, ltb, leb}
+use lib.Dec.{eqb, leb}
 use lib.ListN.{getD, set}
-use Rattle.words.specs.Answer.{Answer, refuse, ok, _>>=_, _>>_, require, if_then_else_}
-use Rattle.words.specs.Numbers.{noWord, flagMissing, badInstruction, taggedTransfer, notGate, noFreeFrame}
+use Rattle.words.specs.Answer.{Answer, ok, _>>=_, if_then_else_}
 use Rattle.words.specs.Arithmetic.{sumOf, differenceOf}
 use Rattle.words.specs.Offset.{literalOf}
 use Rattle.words.specs.PointerWord.{pointerWord}
@@ -14,14 +13,11 @@ use Rattle.words.specs.declared.pointer.Pointer.{Pointer}
 use Rattle.words.specs.declared.instruction.Instruction.{Instruction}
 use Rattle.state.specs.declared.record.Registers.{Registers}
 use Rattle.state.specs.Record.{noPointer}
-use Rattle.machine.specs.declared.flag.Flag.the-variants as flag
-use Rattle.machine.specs.Flag.{has}
-use Rattle.machine.specs.Static.{exists, rightsOf, staticOf}
 use Rattle.machine.specs.Reference.{accept}
-use Rattle.instructions.specs.declared.transfer.CallAnswer.{CallAnswer}
-use Rattle.instructions.specs.declared.transfer.CallAnswer.the-variants as way
-use Rattle.instructions.specs.Reader.{Reader}
-use Rattle.instructions.specs.Effective.{effectiveOf}
+use Rattle.pointers.specs.Stack.{withBase, stackOf}
+use Rattle.transfers.specs.Transfer.{jumpCheck, callWay}
+use Rattle.memory.specs.Reader.{Reader}
+use Rattle.addressing.specs.Effective.{effectiveOf}
 use Rattle.instructions.specs.Plan.{Plan, halt, move, store, enter, leave}
 
 -- the opcodes
@@ -86,42 +82,6 @@ takenOf opcode a = if eqb opcode JZ then eqb a 0 else (if eqb opcode JM then leb
 -- whether an opcode jumps to an effective pointer of this tag
 unfoldable pub jumpsOf : ℕ → ℕ → Bool → Bool
 jumpsOf opcode a tag = if eqb opcode JUMP then true else (if eqb opcode RET then not tag else takenOf opcode a)
-
--- pointer register b at word 0 of a stack segment
-abbrev pub withBase : List Pointer → ℕ → List Pointer
-withBase pointers stack = set pointers 2 (record { word = 0; segment = stack; tag = false })
-
--- the gate count and the gate domain of a segment, and the stack segment of a domain; nothing past the rows
-abbrev pub gatesOf : List ℕ → ℕ → ℕ
-gatesOf gates segment = if ltb segment 16 then getD gates segment 0 else 0
-
-abbrev pub gateDomainOf : List ℕ → ℕ → ℕ
-gateDomainOf gatedomains segment = if ltb segment 16 then getD gatedomains segment 0 else 0
-
-abbrev pub stackOf : List ℕ → ℕ → ℕ
-stackOf stacks domain = if ltb domain 8 then getD stacks domain 0 else 0
-
--- a jump's checks, an untagged pointer, then static E: 0, or the number of the fault
-unfoldable pub jumpCheck : List ℕ → List ℕ → ℕ → Pointer → ℕ
-jumpCheck lengths rights domain p = if p .tag then taggedTransfer else staticOf lengths rights domain flag.Execute (p .segment) (p .word)
-
--- a call's checks: untagged; the word exists; with E it is a call inside the domain; else G, then a gate, then a free frame
-unfoldable pub callWay : List ℕ → List ℕ → List ℕ → ℕ → ℕ → Pointer → Answer Bool
-callWay lengths gates rights domain depth p =
-    require (not (p .tag)) taggedTransfer >>
-    require (exists lengths (p .segment) (p .word)) noWord >>
-    (if has (rightsOf rights domain (p .segment)) flag.Execute then ok true
-    else (
-    require (has (rightsOf rights domain (p .segment)) flag.Gate) flagMissing >>
-    require (ltb (p .word) (gatesOf gates (p .segment))) notGate >>
-    require (ltb depth 8) noFreeFrame >>
-    ok false))
-
--- what the code's answer stands for: true inside the domain, false through a gate
-abbrev pub callAnswer : CallAnswer → Answer Bool
-callAnswer way.Inside = ok true
-callAnswer way.Gate = ok false
-callAnswer (way.Refused n) = refuse n
 
 -- what the instructions know of the configuration and the frames
 module _ (lengths gates rights stacks : List ℕ) (depth : ℕ) (r : Registers) (pointers : List Pointer) where

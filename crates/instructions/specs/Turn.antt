@@ -13,9 +13,10 @@ use Rattle.machine.specs.Reference.{verdictOf, accept}
 use Rattle.instructions.specs.declared.turn.Event.{Event}
 use Rattle.instructions.specs.declared.turn.Event.the-variants as event
 use Rattle.instructions.specs.declared.turn.Turn.{Turn}
-use Rattle.instructions.specs.Reader.{readOf, fetchOf, writtenOf}
+use Rattle.memory.specs.Reader.{readOf, fetchOf, writtenOf}
 use Rattle.instructions.specs.Plan.{Plan, halt, move, store, enter, leave}
-use Rattle.instructions.specs.Instruction.{planOf, operateOf, withBase}
+use Rattle.instructions.specs.Instruction.{planOf, operateOf}
+use Rattle.pointers.specs.Stack.{withBase}
 
 -- where an instruction came to
 pub data Turned : Type 0 where

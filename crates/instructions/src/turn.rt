@@ -1,22 +1,22 @@
 // One instruction, but for a crossing.
 ghost use mathlib.Core.Path.{_≡_};
 ghost use Prim.Native.Nat.{_<_};
-ghost use Rattle.instructions.specs.Reader.{readOf};
+ghost use Rattle.memory.specs.Reader.{readOf};
 ghost use Rattle.instructions.specs.Instruction.{isLoad, isStore, valueOf, jumpsOf, effectOf, executeOf};
 ghost use Rattle.instructions.specs.Turn.{turnAnswer, turnOf, turnWords, settledAnswer, settledWords};
-use crate::access::WordAnswer;
-use crate::access::fetch;
-use crate::effective::effective;
 use crate::effects::call;
 use crate::effects::go_to;
 use crate::effects::load;
 use crate::effects::onward;
 use crate::effects::save;
 use crate::effects::stay;
-use crate::pointers::pointer_at;
-use crate::transfer::jump_check;
+use addressing::effective;
+use memory::WordAnswer;
+use memory::fetch;
+use pointers::pointer_at;
 use state::record::Frame;
 use state::record::Registers;
+use transfers::jump_check;
 use words::instruction::Instruction;
 use words::instruction::InstructionAnswer;
 use words::instruction::decode;

@@ -7,8 +7,9 @@ use lib.ListN.{length, set, length-set}
 use Rattle.words.specs.Answer.{Answer, refuse, ok}
 use Rattle.state.specs.declared.record.Machine.{Machine}
 use Rattle.state.specs.Bases.{wordsIn}
-use Rattle.processor.specs.Step.{Event, stopped, moved, crossing, Done, execute}
-use Rattle.processor.specs.Run.{crossed, after, afterEvent, runFrom, runOf, stretchOf}
+use Rattle.runs.specs.Step.{Event, stopped, moved, crossing, Done, execute}
+use Rattle.runs.specs.Run.{crossed, after, afterEvent, runFrom}
+use Rattle.processor.specs.Calls.{runOf, stretchOf}
 use Rattle.isolation.specs.Visible.{maySee, couldWrite, existing, place}
 use Rattle.isolation.specs.Isolation.{Agree, Unchanged, Isolated}
 use Rattle.isolation.proofs.Theorem.{isolation-fits}

@@ -9,7 +9,8 @@ use Rattle.state.specs.declared.record.Machine.{Machine}
 use Rattle.state.specs.Bases.{baseOf, basesOf, wordsIn}
 use Rattle.machine.specs.declared.flag.Flag.the-variants as flag
 use Rattle.machine.specs.declared.flag.Access.the-variants as access
-use Rattle.processor.specs.Run.{Ran, stretchOf}
+use Rattle.runs.specs.Run.{Ran}
+use Rattle.processor.specs.Calls.{stretchOf}
 use Rattle.isolation.specs.Visible.{byStatic, byLive, couldWrite, existing, place, wordAt}
 use Rattle.isolation.specs.Isolation.{Unchanged}
 use Rattle.isolation.proofs.Or.{either}

@@ -7,7 +7,7 @@ use lib.ListN.{length}
 use Rattle.state.specs.declared.record.Machine.{Machine}
 use Rattle.soundness.specs.Sound.{soundTest}
 use Rattle.soundness.proofs.Facts.{sound-facts}
-use Rattle.processor.specs.Run.{stretchOf}
+use Rattle.processor.specs.Calls.{stretchOf}
 use Rattle.isolation.specs.Isolation.{Agree, Isolated}
 use Rattle.isolation.proofs.Theorem.{isolation-fits}
 

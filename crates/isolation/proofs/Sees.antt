@@ -19,7 +19,7 @@ use Rattle.machine.specs.Static.{staticOf}
 use Rattle.machine.specs.Reference.{accept, verdictOf, referenceOf, locateOf}
 use Rattle.machine.specs.Machine.{check}
 use Rattle.machine.proofs.Passes.{verdict-exists}
-use Rattle.instructions.specs.Reader.{readWord, readOf, fetch, fetchOf}
+use Rattle.memory.specs.Reader.{readWord, readOf, fetch, fetchOf}
 use Rattle.isolation.specs.Visible.{byStatic, byLive, maySee, couldWrite, existing, place}
 use Rattle.isolation.specs.Isolation.{Agree}
 use Rattle.isolation.proofs.Or.{or-left, or-right}

@@ -13,8 +13,8 @@ use Rattle.state.specs.declared.record.Machine.{Machine}
 use Rattle.state.specs.Bases.{wordsIn}
 use Rattle.machine.proofs.Passes.{never}
 use Rattle.machine.proofs.Places.{index-lt, index-apart}
-use Rattle.processor.specs.Step.{movedTo}
-use Rattle.processor.specs.Run.{Ran}
+use Rattle.runs.specs.Step.{movedTo}
+use Rattle.runs.specs.Run.{Ran}
 use Rattle.isolation.specs.Visible.{maySee, couldWrite, existing, place, wordAt}
 use Rattle.isolation.specs.Isolation.{Agree, Unchanged, Isolated}
 use Rattle.isolation.proofs.Sees.{Target}

@@ -5,9 +5,9 @@ use mathlib.Core.List.{List}
 use mathlib.Core.Path.{_≡_, refl}
 use Rattle.words.specs.Answer.{Answer, _>>=_}
 use Rattle.state.specs.declared.record.Machine.{Machine}
-use Rattle.instructions.specs.Reader.{Reader, readWord, fetch}
-use Rattle.processor.specs.Step.{Act, Done, decide, commit, execute}
-use Rattle.processor.specs.Run.{Ran, ran, spent, after, runFrom}
+use Rattle.memory.specs.Reader.{Reader, readWord, fetch}
+use Rattle.runs.specs.Step.{Act, Done, decide, commit, execute}
+use Rattle.runs.specs.Run.{Ran, ran, spent, after, runFrom}
 
 module _ (decide : Machine → Answer ℕ → Reader → Answer Act) where
   abbrev pub executeWith : Machine → List ℕ → Answer Done

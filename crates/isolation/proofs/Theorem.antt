@@ -12,9 +12,10 @@ use Rattle.state.specs.declared.record.Machine.{Machine}
 use Rattle.state.specs.Bases.{wordsIn}
 use Rattle.machine.specs.declared.flag.Access.the-variants as access
 use Rattle.machine.specs.Machine.{check}
-use Rattle.instructions.specs.Reader.{Reader, readWord, fetch}
-use Rattle.processor.specs.Step.{Act, stop, proceed, put, cross, Done, done, moved, movedTo, decide, commit}
-use Rattle.processor.specs.Run.{Ran, ran, Ending, halted, spent, crossed, faulted, after, stretchOf}
+use Rattle.memory.specs.Reader.{Reader, readWord, fetch}
+use Rattle.runs.specs.Step.{Act, stop, proceed, put, cross, Done, done, moved, movedTo, decide, commit}
+use Rattle.runs.specs.Run.{Ran, ran, Ending, halted, spent, crossed, faulted, after}
+use Rattle.processor.specs.Calls.{stretchOf}
 use Rattle.isolation.specs.Isolation.{Agree, Isolated}
 use Rattle.isolation.proofs.Sees.{same-reader, same-fetch, target}
 use Rattle.isolation.proofs.Stretch.{stretchWith, stretch-is}

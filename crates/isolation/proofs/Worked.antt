@@ -22,13 +22,15 @@ use Rattle.capabilities.specs.Search.{coversOf, firstOf}
 use Rattle.machine.specs.Live.{liveMatch, liveOf}
 use Rattle.machine.specs.Reference.{verdictOf, locateOf, referenceOf}
 use Rattle.machine.specs.Machine.{check}
-use Rattle.instructions.specs.Reader.{readOf, fetchOf, readWord, fetch}
-use Rattle.instructions.specs.Effective.{displacedBy, throughOf, effectiveOf}
-use Rattle.instructions.specs.Instruction.{jumpCheck, callWay, loadOf, branchOf, callOf, isLoad, isStore, valueOf, takenOf, effectOf, executeOf, planOf, jumpOf, returnOf}
-use Rattle.crossings.specs.ArgumentList.{listWord, listPointer, sourceOf, capabilityOf, argumentOf, argumentsFrom, frameAfter, frameOf}
+use Rattle.memory.specs.Reader.{readOf, fetchOf, readWord, fetch}
+use Rattle.addressing.specs.Effective.{displacedBy, throughOf, effectiveOf}
+use Rattle.transfers.specs.Transfer.{jumpCheck, callWay}
+use Rattle.instructions.specs.Instruction.{loadOf, branchOf, callOf, isLoad, isStore, valueOf, takenOf, effectOf, executeOf, planOf, jumpOf, returnOf}
+use Rattle.arguments.specs.ArgumentList.{listWord, listPointer, sourceOf, capabilityOf, argumentOf, argumentsFrom, frameAfter, frameOf}
 use Rattle.crossings.specs.Crossing.{freeFrame, entered, enterOf}
-use Rattle.processor.specs.Step.{decide, commit, execute}
-use Rattle.processor.specs.Run.{ran, crossed, runFrom, stretchOf}
+use Rattle.runs.specs.Step.{decide, commit, execute}
+use Rattle.runs.specs.Run.{ran, crossed, runFrom}
+use Rattle.processor.specs.Calls.{stretchOf}
 use Rattle.isolation.specs.Visible.{byStatic, byLive, maySee, couldWrite, existing, place, wordAt}
 use Rattle.isolation.specs.Isolation.{Agree, Isolated}
 use Rattle.isolation.proofs.Hidden.{hidden-agrees}

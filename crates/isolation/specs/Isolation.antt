@@ -5,7 +5,7 @@ use mathlib.Core.List.{List}
 use mathlib.Core.Logic.{_⊎_}
 use mathlib.Core.Path.{_≡_}
 use Rattle.state.specs.declared.record.Machine.{Machine}
-use Rattle.processor.specs.Run.{Ran}
+use Rattle.runs.specs.Run.{Ran}
 use Rattle.isolation.specs.Visible.{maySee, couldWrite, existing, wordAt}
 
 -- two memories hold the same number in every word that the executing domain may see

@@ -42,12 +42,12 @@ use denote.Exit.{yes}
 use Rattle.state.specs.declared.record.Machine.{Machine}
 use Rattle.state.proofs.record.Machine as T
 use Rattle.state.proofs.record.Machine.Laws as T′
-use Rattle.processor.specs.Run.{Ran}
-use Rattle.processor.specs.Rest.{ranAnswer}
-use Rattle.processor.specs.declared.outcome.Outcome.{Outcome}
-use Rattle.processor.proofs.outcome.Outcome as S
-use Rattle.processor.proofs.outcome.Outcome.Laws as S′
-use Rattle.processor.proofs.run.run as callee
+use Rattle.runs.specs.Run.{Ran}
+use Rattle.runs.specs.Rest.{ranAnswer}
+use Rattle.runs.specs.declared.outcome.Outcome.{Outcome}
+use Rattle.runs.proofs.outcome.Outcome as S
+use Rattle.runs.proofs.outcome.Outcome.Laws as S′
+use Rattle.processor.proofs.run as callee
 use Rattle.lent.specs.Lent.{lentRan}
 use Rattle.lent.specs.declared.RunResult.{RunResult}
 use Rattle.lent.proofs.RunResult as R

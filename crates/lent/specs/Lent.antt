@@ -2,8 +2,9 @@
 use Prim.Native.Nat.{ℕ}
 use mathlib.Core.List.{List}
 use Rattle.state.specs.declared.record.Machine.{Machine}
-use Rattle.processor.specs.Run.{Ran, ran, Step}
-use Rattle.processor.specs.Rest.{endAnswer}
+use Rattle.runs.specs.Run.{Ran, ran}
+use Rattle.processor.specs.Calls.{Step}
+use Rattle.runs.specs.Rest.{endAnswer}
 use Rattle.lent.specs.declared.StepResult.{StepResult}
 use Rattle.lent.specs.declared.RunResult.{RunResult}
 

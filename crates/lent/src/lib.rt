@@ -1,8 +1,8 @@
 // The calls on a machine whose record is lent. Any record and any memory may be lent.
 ghost use mathlib.Core.Path.{_≡_};
-ghost use Rattle.processor.specs.Run.{stepCall, runCall, stretchCall};
+ghost use Rattle.processor.specs.Calls.{stepCall, runCall, stretchCall};
 ghost use Rattle.lent.specs.Lent.{lentStep, lentRan};
-use processor::outcome::End;
+use runs::outcome::End;
 use state::record::Machine;
 
 // The number of a refusal or a fault; 0 for a completed instruction.
@@ -20,7 +20,7 @@ pub struct RunResult {
 pub fn step(m: &mut Machine, words: &mut [u32]) -> StepResult
     ensures { λ r. ⌜ lentStep (now (m .exit)) (now (words .exit)) r ≡ stepCall (now (m .entry)) (now (words .entry)) ⌝ }
 {
-    let s = processor::run::step(*m, words);
+    let s = processor::step(*m, words);
     *m = s.machine;
     StepResult {
         number: s.number,
@@ -32,7 +32,7 @@ pub fn step(m: &mut Machine, words: &mut [u32]) -> StepResult
 pub fn run(m: &mut Machine, words: &mut [u32], limit: u16) -> RunResult
     ensures { λ r. ⌜ lentRan (now (m .exit)) (now (words .exit)) r ≡ runCall limit (now (m .entry)) (now (words .entry)) ⌝ }
 {
-    let o = processor::run::run(*m, words, limit);
+    let o = processor::run(*m, words, limit);
     *m = o.machine;
     RunResult {
         count: o.count,
@@ -44,7 +44,7 @@ pub fn run(m: &mut Machine, words: &mut [u32], limit: u16) -> RunResult
 pub fn stretch(m: &mut Machine, words: &mut [u32], limit: u16) -> RunResult
     ensures { λ r. ⌜ lentRan (now (m .exit)) (now (words .exit)) r ≡ stretchCall limit (now (m .entry)) (now (words .entry)) ⌝ }
 {
-    let o = processor::run::stretch(*m, words, limit);
+    let o = processor::stretch(*m, words, limit);
     *m = o.machine;
     RunResult {
         count: o.count,

@@ -5,11 +5,11 @@ use mathlib.Core.List.{List}
 use borrow.Author.Tests.{le-leb, lt-leb, lt-ltb}
 use lib.ListN.{length}
 use Rattle.words.specs.Answer.{Answer, refuse}
-use Rattle.snapshot.specs.Read.{recordOf}
-use Rattle.snapshot.specs.Write.{writtenTo}
+use Rattle.snapshot_reader.specs.Read.{recordOf}
+use Rattle.snapshot_writer.specs.Write.{writtenTo}
 use Rattle.image.specs.Image.{Image}
-use Rattle.image.specs.Reader.{readOf, machineAfter, memoryAfter}
-use Rattle.image.specs.declared.reader.ReadAnswer.{ReadAnswer}
+use Rattle.image_reader.specs.Reader.{readOf, machineAfter, memoryAfter}
+use Rattle.image_reader.specs.declared.ReadAnswer.{ReadAnswer}
 use Rattle.probe.specs.Images.{imageRead, readNumber, recordAfterRead, wordsAfterRead}
 
 module _ (image bytes words : List ℕ) where

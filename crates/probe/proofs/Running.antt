@@ -6,11 +6,11 @@ use mathlib.Core.Path.{_≡_, refl, sym, ap, _∙_}
 use borrow.Author.Tests.{le-leb, lt-leb, lt-ltb}
 use lib.Dec.{eqb}
 use lib.ListN.{length}
-use Rattle.snapshot.specs.Read.{recordOf}
-use Rattle.snapshot.specs.Write.{writtenTo}
-use Rattle.processor.specs.declared.outcome.Outcome.{Outcome}
-use Rattle.processor.specs.Run.{Ran, ran, refused}
-use Rattle.processor.specs.Rest.{endAnswer, ranAnswer}
+use Rattle.snapshot_reader.specs.Read.{recordOf}
+use Rattle.snapshot_writer.specs.Write.{writtenTo}
+use Rattle.runs.specs.declared.outcome.Outcome.{Outcome}
+use Rattle.runs.specs.Run.{Ran, ran, refused}
+use Rattle.runs.specs.Rest.{endAnswer, ranAnswer}
 use Rattle.probe.specs.Runs.{ranBy, ranOn, endCode, ranCode, bytesAfter}
 
 module _ (bytes words : List ℕ) (limit stretch : ℕ) where

@@ -12,13 +12,13 @@ use Rattle.words.specs.Answer.{Answer, ok, _>>_, require}
 use Rattle.state.specs.declared.record.Machine.{Machine}
 use Rattle.soundness.specs.Sound.{soundTest}
 use Rattle.soundness.proofs.Facts.{sound-facts}
-use Rattle.snapshot.specs.Tabulate.{tabulate}
-use Rattle.snapshot.specs.Read.{recordOf}
+use Rattle.snapshot_writer.specs.Tabulate.{tabulate}
+use Rattle.snapshot_reader.specs.Read.{recordOf}
 use Rattle.image.specs.Image.{imageFrom, bytesOf}
-use Rattle.image.specs.Reader.{mapped}
-use Rattle.image.specs.Writer.{writeOf, writtenOf}
+use Rattle.image_reader.specs.Reader.{mapped}
+use Rattle.image_writer.specs.Writer.{writeOf, writtenOf}
 use Rattle.image.proofs.Sizes.{image-size}
-use Rattle.image.specs.declared.writer.Written.{Written}
+use Rattle.image_writer.specs.declared.Written.{Written}
 use Rattle.probe.specs.Check.{codeOf}
 use Rattle.probe.specs.Images.{imageWritten, writeCode}
 

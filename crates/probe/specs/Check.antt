@@ -7,7 +7,7 @@ use Rattle.words.specs.declared.pointer.Pointer.{Pointer}
 use Rattle.machine.specs.declared.flag.Access.{Access}
 use Rattle.machine.specs.declared.flag.Access.the-variants as access
 use Rattle.checks.specs.Judged.{judgedCheck}
-use Rattle.snapshot.specs.Read.{recordOf}
+use Rattle.snapshot_reader.specs.Read.{recordOf}
 
 -- 1 asks to write, another number to read
 abbrev pub accessOf : ℕ → Access

@@ -5,12 +5,12 @@ use lib.Dec.{leb}
 use lib.ListN.{length}
 use Rattle.words.specs.Answer.{Answer, _>>_, require}
 use Rattle.words.specs.Numbers.{outputTooShort}
-use Rattle.snapshot.specs.Read.{recordOf}
-use Rattle.snapshot.specs.Write.{writtenTo}
+use Rattle.snapshot_reader.specs.Read.{recordOf}
+use Rattle.snapshot_writer.specs.Write.{writtenTo}
 use Rattle.image.specs.Image.{Image}
-use Rattle.image.specs.Reader.{readOf, machineAfter, memoryAfter, mapped}
-use Rattle.image.specs.Writer.{writeOf, outputAfter}
-use Rattle.image.specs.declared.reader.ReadAnswer.{ReadAnswer}
+use Rattle.image_reader.specs.Reader.{readOf, machineAfter, memoryAfter, mapped}
+use Rattle.image_writer.specs.Writer.{writeOf, outputAfter}
+use Rattle.image_reader.specs.declared.ReadAnswer.{ReadAnswer}
 use Rattle.probe.specs.Check.{codeOf}
 
 -- the image, or the refusal; 8, where a record has no room, comes first

@@ -7,9 +7,10 @@ use lib.ListN.{length}
 use Rattle.words.specs.Answer.{if_then_else_}
 use Rattle.words.specs.Numbers.{outputTooShort}
 use Rattle.state.specs.declared.record.Machine.{Machine}
-use Rattle.snapshot.specs.Read.{recordOf}
-use Rattle.snapshot.specs.Write.{writtenTo}
-use Rattle.processor.specs.Run.{Ending, halted, spent, crossed, faulted, refused, Ran, ran, runCall, stretchCall}
+use Rattle.snapshot_reader.specs.Read.{recordOf}
+use Rattle.snapshot_writer.specs.Write.{writtenTo}
+use Rattle.runs.specs.Run.{Ending, halted, spent, crossed, faulted, refused, Ran, ran}
+use Rattle.processor.specs.Calls.{runCall, stretchCall}
 
 -- a run, or a stretch
 unfoldable pub ranBy : Bool → ℕ → Machine → List ℕ → Ran

@@ -8,7 +8,7 @@ ghost use Rattle.probe.specs.Check.{accessOf, checkOf};
 use checks::reference::check_reference;
 use machine::flag::Access;
 use machine::reference::IndexAnswer;
-use snapshot::read::record_of;
+use snapshot_reader::record_of;
 use words::pointer::Pointer;
 
 fn access(write: u8) -> Access

@@ -1,9 +1,9 @@
 // The reader of images, on the bytes of a record.
 ghost use mathlib.Core.Path.{_≡_};
 ghost use Rattle.probe.specs.Images.{readNumber, recordAfterRead, wordsAfterRead};
-use image::reader::read;
-use snapshot::read::record_of;
-use snapshot::write::bytes_of;
+use image_reader::read;
+use snapshot_reader::record_of;
+use snapshot_writer::bytes_of;
 
 // Reads an image into the record that bytes hold and its words, and returns the reader's number; 8 where the record has fewer than 919 bytes.
 #[no_mangle]

@@ -1,14 +1,14 @@
 // Runs of a machine, on the bytes of its record.
 ghost use mathlib.Core.Path.{_≡_};
 ghost use Prim.Native.Nat.{_+_};
-ghost use Rattle.processor.specs.Rest.{endAnswer, ranAnswer};
+ghost use Rattle.runs.specs.Rest.{endAnswer, ranAnswer};
 ghost use Rattle.probe.specs.Runs.{ranBy, ranOn, endCode, ranCode, bytesAfter};
-use processor::outcome::End;
-use processor::outcome::Outcome;
-use processor::run::run;
-use processor::run::stretch;
-use snapshot::read::record_of;
-use snapshot::write::bytes_of;
+use processor::run;
+use processor::stretch;
+use runs::outcome::End;
+use runs::outcome::Outcome;
+use snapshot_reader::record_of;
+use snapshot_writer::bytes_of;
 use state::record::Machine;
 
 fn code(count: u16, end: End) -> u32

@@ -1,8 +1,8 @@
 // The writer of images, on the bytes of a record.
 ghost use mathlib.Core.Path.{_≡_};
 ghost use Rattle.probe.specs.Images.{writeCode, outputAfterWrite};
-use image::writer::write;
-use snapshot::read::record_of;
+use image_writer::write;
+use snapshot_reader::record_of;
 
 // Writes the image of the record that bytes hold, and returns its length, or 0x10000 plus the refusal's number.
 #[no_mangle]

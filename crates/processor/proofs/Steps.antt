@@ -6,8 +6,9 @@ use mathlib.Core.Path.{_≡_, refl, sym, ap, _∙_}
 use lib.Dec.{eqb}
 use Rattle.words.specs.Answer.{Answer, refuse, ok, if_then_else_}
 use Rattle.state.specs.declared.record.Machine.{Machine}
-use Rattle.processor.specs.Step.{Event, stopped, moved, crossing, Done, execute}
-use Rattle.processor.specs.Run.{Ran, ran, halted, spent, faulted, refused, after, afterEvent, runFrom, runOf, judged, calledOf, runCall, stepped, stepCall}
+use Rattle.runs.specs.Step.{Event, stopped, moved, crossing, Done, execute}
+use Rattle.runs.specs.Run.{Ran, ran, halted, spent, faulted, refused, after, afterEvent, runFrom, judged, calledOf}
+use Rattle.processor.specs.Calls.{runOf, runCall, stepped, stepCall}
 use Rattle.processor.specs.Steps.{advance, advances, steps, answer}
 
 -- the first of the steps is made first

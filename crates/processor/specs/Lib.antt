@@ -1,5 +1,2 @@
-pub mod Step
-pub mod Run
-pub mod Moves
-pub mod Rest
+pub mod Calls
 pub mod Steps

@@ -3,8 +3,9 @@ use Prim.Native.Nat.{ℕ, zero, suc, _+_, _-_}
 use mathlib.Core.Bool.{Bool, true, false}
 use mathlib.Core.List.{List}
 use Rattle.state.specs.declared.record.Machine.{Machine}
-use Rattle.processor.specs.Step.{execute}
-use Rattle.processor.specs.Run.{Ending, halted, spent, crossed, faulted, refused, Ran, ran, after, runFrom, Step}
+use Rattle.runs.specs.Step.{execute}
+use Rattle.runs.specs.Run.{Ending, halted, spent, crossed, faulted, refused, Ran, ran, after, runFrom}
+use Rattle.processor.specs.Calls.{Step}
 
 -- a run that is spent makes one instruction more; one that has ended stays
 abbrev advanceFrom : Ran → Ending → Ran

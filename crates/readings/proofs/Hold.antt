@@ -15,8 +15,9 @@ use Rattle.words.specs.Offset.{signedOf, displacedOf, literalOf}
 use Rattle.words.specs.InstructionWord.{instructionOf}
 use Rattle.words.specs.ModeWord.{modeOf}
 use Rattle.state.specs.Bases.{baseOf, basesOf}
-use Rattle.soundness.specs.Fresh.{freshOf}
-use Rattle.soundness.specs.Sound.{allFrom, segmentTest, stackTest, rightsTest, startTest, layoutTest, registersTest, pointerTest, pointersTest, capabilityTest, emptyCapability, emptyPointer, emptyFrame, frameTest, framesTest, soundTest}
+use Rattle.fresh.specs.Fresh.{freshOf}
+use Rattle.layouts.specs.SoundLayout.{allFrom, segmentTest, stackTest, rightsTest, startTest, layoutTest}
+use Rattle.soundness.specs.Sound.{registersTest, pointerTest, pointersTest, capabilityTest, emptyCapability, emptyPointer, emptyFrame, frameTest, framesTest, soundTest}
 use Rattle.machine.specs.Flag.{has}
 use Rattle.machine.specs.Static.{exists, rightsOf, staticOf}
 use Rattle.capabilities.specs.Search.{coversOf, firstOf}
@@ -24,13 +25,15 @@ use Rattle.machine.specs.Live.{liveMatch, liveOf, passedOf}
 use Rattle.machine.specs.Reference.{verdictOf, locateOf, referenceOf}
 use Rattle.machine.specs.Machine.{check}
 use Rattle.checks.specs.Judged.{judgedCheck}
-use Rattle.instructions.specs.Reader.{readOf, fetchOf, readWord, fetch}
-use Rattle.instructions.specs.Effective.{displacedBy, throughOf, effectiveOf}
-use Rattle.instructions.specs.Instruction.{callWay, callOf, loadOf, isLoad, isStore, valueOf, takenOf, effectOf, executeOf, planOf}
-use Rattle.crossings.specs.ArgumentList.{listWord, sourceOf, capabilityOf, listPointer, argumentOf, argumentsFrom, frameAfter, frameOf}
+use Rattle.memory.specs.Reader.{readOf, fetchOf, readWord, fetch}
+use Rattle.addressing.specs.Effective.{displacedBy, throughOf, effectiveOf}
+use Rattle.transfers.specs.Transfer.{callWay}
+use Rattle.instructions.specs.Instruction.{callOf, loadOf, isLoad, isStore, valueOf, takenOf, effectOf, executeOf, planOf}
+use Rattle.arguments.specs.ArgumentList.{listWord, sourceOf, capabilityOf, listPointer, argumentOf, argumentsFrom, frameAfter, frameOf}
 use Rattle.crossings.specs.Crossing.{entered, enterOf}
-use Rattle.processor.specs.Step.{decide, commit, execute}
-use Rattle.processor.specs.Run.{runFrom, judged, calledOf, runCall}
+use Rattle.runs.specs.Step.{decide, commit, execute}
+use Rattle.runs.specs.Run.{runFrom, judged, calledOf}
+use Rattle.processor.specs.Calls.{runCall}
 use Rattle.readings.specs.Question.{answer}
 use Rattle.readings.specs.Table.{Row, table}
 

@@ -14,7 +14,8 @@ use Rattle.state.specs.Record.{inUse, liveFrame}
 use Rattle.machine.specs.declared.flag.Access.the-variants as access
 use Rattle.machine.specs.Live.{passedOf}
 use Rattle.checks.specs.Judged.{judgedCheck}
-use Rattle.processor.specs.Run.{Ran, Ending, halted, spent, crossed, faulted, refused, runCall}
+use Rattle.runs.specs.Run.{Ran, Ending, halted, spent, crossed, faulted, refused}
+use Rattle.processor.specs.Calls.{runCall}
 use Rattle.readings.specs.Scene.{Scene, machineOf, startOf, memoryOf}
 
 pub data Question : Type 0 where

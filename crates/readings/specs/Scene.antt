@@ -9,7 +9,7 @@ use Rattle.state.specs.declared.record.Capability.{Capability}
 use Rattle.state.specs.declared.record.Frame.{Frame}
 use Rattle.state.specs.declared.record.Machine.{Machine}
 use Rattle.state.specs.Record.{noPointer, noCapability}
-use Rattle.soundness.specs.Fresh.{freshOf}
+use Rattle.fresh.specs.Fresh.{freshOf}
 
 -- the segments' lengths and gate counts, for each domain its rights on them, and the capabilities of the live frame; domain 0 executes, and gates lead into it
 pub record Scene : Type 0 where

@@ -5,9 +5,9 @@ use mathlib.Core.List.{List, _++_}
 use mathlib.Core.Path.{_≡_, sym, ap, _∙_}
 use lib.ListN.{length, take, replicate, length-replicate}
 use lib.Seq.{length-take-le}
-use Rattle.processor.specs.declared.outcome.End.the-variants as end
-use Rattle.processor.specs.declared.outcome.Outcome.{Outcome}
-use Rattle.processor.specs.Rest.{endAnswer}
+use Rattle.runs.specs.declared.outcome.End.the-variants as end
+use Rattle.runs.specs.declared.outcome.Outcome.{Outcome}
+use Rattle.runs.specs.Rest.{endAnswer}
 use Rattle.image.specs.Output.{written}
 use Rattle.image.proofs.Written.{then-length}
 use Rattle.entry.specs.ImageRun.{outcomeAnswer, imageRun, closed}

@@ -4,7 +4,7 @@ use mathlib.Core.List.{List, [], _∷_, _++_}
 use lib.ListN.{length, replicate}
 use Rattle.words.specs.Answer.{Answer, refuse, ok}
 use Rattle.state.specs.declared.record.Registers.{Registers}
-use Rattle.processor.specs.Run.{Ending, halted, spent, crossed, faulted, refused}
+use Rattle.runs.specs.Run.{Ending, halted, spent, crossed, faulted, refused}
 use Rattle.image.specs.Output.{written}
 use Rattle.entry.specs.ImageRun.{Final, imageRun}
 use Rattle.report.specs.Text.{text, field, line}

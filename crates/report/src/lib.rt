@@ -9,7 +9,7 @@ ghost use Rattle.report.specs.Report.{printedOf, reportOf};
 use crate::lines::put_end;
 use crate::lines::put_rest;
 use entry::image_run::run_image;
-use processor::outcome::End;
+use runs::outcome::End;
 
 // The printed bytes are the first length ones; the others are zero.
 pub struct Printed {

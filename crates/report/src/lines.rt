@@ -3,13 +3,13 @@ ghost use mathlib.Core.Path.{_≡_};
 ghost use mathlib.Core.List.{_++_, _∷_, []};
 ghost use Prim.Native.Nat.{_+_, _≤_};
 ghost use lib.ListN.{length};
-ghost use Rattle.processor.specs.Rest.{endAnswer};
+ghost use Rattle.runs.specs.Rest.{endAnswer};
 ghost use Rattle.image.specs.Output.{written};
 ghost use Rattle.report.specs.Text.{text, field, line};
 ghost use Rattle.report.specs.Report.{endText, restText};
 use crate::text::put_decimal;
 use crate::text::put_text;
-use processor::outcome::End;
+use runs::outcome::End;
 use state::record::Registers;
 
 // A label and a number, from a place on; the place after them.

@@ -16,7 +16,7 @@ use Rattle.image.specs.Chunk.{Read, chunkOf, exactly}
 use Rattle.image.specs.Segment.{Segment, allWords}
 use Rattle.image.specs.Domain.{Domain}
 use Rattle.image.specs.Image.{Image, endOf, imageOf}
-use Rattle.image.specs.declared.head.Head.{Head}
+use Rattle.image.specs.declared.Head.{Head}
 use Rattle.image.proofs.Answers.{test, after, bound, the-value}
 use Rattle.image.proofs.Chunks.{chunk-facts, exact-size}
 use Rattle.image.proofs.Images.{ImageRead, image-facts, HeadRead, head-facts, segments-count, domains-count}

@@ -10,16 +10,17 @@ use lib.Seq.{getD-append-add, take-all}
 use borrow.Author.Tests.{lt-ltb, le-leb, eq-eqb, ltb-true, ltb-false, leb-true}
 use Rattle.words.specs.Answer.{ok}
 use Rattle.state.specs.Bases.{total, baseOf, wordsIn}
-use Rattle.soundness.specs.Sound.{between, segmentTest, stackTest, rightsTest, startTest, layoutTest, soundTest}
-use Rattle.soundness.specs.Fresh.{freshOf}
-use Rattle.soundness.proofs.Tests.{join, inside, both, either-part}
-use Rattle.soundness.proofs.All.{all}
+use Rattle.layouts.specs.SoundLayout.{between, segmentTest, stackTest, rightsTest, startTest, layoutTest}
+use Rattle.soundness.specs.Sound.{soundTest}
+use Rattle.fresh.specs.Fresh.{freshOf}
+use Rattle.layouts.proofs.Tests.{join, inside, both, either-part}
+use Rattle.layouts.proofs.All.{all}
 use Rattle.soundness.proofs.FreshSound.{fresh-sound}
 use Rattle.image.specs.Bytes.{joined}
 use Rattle.image.specs.Segment.{Segment, allWords}
 use Rattle.image.specs.Domain.{Domain, allRights}
 use Rattle.image.specs.Image.{Image, imageOf, layoutOf, padded, allRows}
-use Rattle.image.specs.Rows.{lengthsOf, gatesOf, gatedomainsOf, stacksOf}
+use Rattle.image_reader.specs.Rows.{lengthsOf, gatesOf, gatedomainsOf, stacksOf}
 use Rattle.image.proofs.Padded.{padded-length}
 use Rattle.roundtrips.proofs.Good.{All, all-at, Good, GoodSegment, GoodDomain}
 use Rattle.roundtrips.proofs.Accepted.{accepted}

@@ -12,7 +12,7 @@ use Rattle.image.specs.Head.{headFields, headBody, headOf}
 use Rattle.image.specs.Segment.{segmentLength, segmentFields, segmentBody, segmentOf, segmentsOf}
 use Rattle.image.specs.Domain.{allRights, domainBody, domainOf, domainsOf}
 use Rattle.image.specs.Image.{Image, endOf, imageOf}
-use Rattle.image.specs.Reader.{readOf}
+use Rattle.image_reader.specs.Reader.{readOf}
 
 -- one segment of one word, HALT, and one domain that may execute it
 abbrev example : List ℕ

@@ -12,7 +12,7 @@ use Rattle.image.specs.Bytes.{joined}
 use Rattle.image.specs.Segment.{Segment, allWords}
 use Rattle.image.specs.Domain.{Domain}
 use Rattle.image.specs.Image.{Image, layoutOf, padded, allRows, rowsFrom, segmentAt, domainAt, imageFrom}
-use Rattle.image.specs.Rows.{lengthsOf, gatesOf, gatedomainsOf, stacksOf}
+use Rattle.image_reader.specs.Rows.{lengthsOf, gatesOf, gatedomainsOf, stacksOf}
 use Rattle.image.proofs.Joined.{joined-append, joined-snoc, rows-length}
 use Rattle.roundtrips.proofs.Good.{All, all-at, Good, GoodDomain}
 use Rattle.roundtrips.proofs.AcceptedSound.{noSegment, noDomain, map-at, rows-size}

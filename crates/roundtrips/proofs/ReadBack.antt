@@ -17,7 +17,7 @@ use Rattle.image.specs.Head.{headFields, headBody, headOf, headBytes, startWord
 use Rattle.image.specs.Segment.{Segment, wordCount, segmentLength, segmentFields, segmentBody, segmentOf, segmentsOf, segmentBytes, segmentsBytes, allWords}
 use Rattle.image.specs.Domain.{Domain, domainBody, domainOf, domainsOf, domainBytes, domainsBytes}
 use Rattle.image.specs.Image.{Image, endOf, imageOf, bytesOf}
-use Rattle.image.specs.declared.head.Head.{Head}
+use Rattle.image.specs.declared.Head.{Head}
 use Rattle.roundtrips.proofs.Good.{All, Good, GoodSegment, GoodDomain}
 use Rattle.image.proofs.Written.{words-size}
 

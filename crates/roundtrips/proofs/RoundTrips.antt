@@ -12,12 +12,12 @@ use Rattle.state.specs.declared.record.Layout.{Layout}
 use Rattle.state.specs.declared.record.Machine.{Machine}
 use Rattle.state.specs.Bases.{wordsIn}
 use Rattle.soundness.specs.Sound.{soundTest}
-use Rattle.soundness.specs.Fresh.{freshOf}
+use Rattle.fresh.specs.Fresh.{freshOf}
 use Rattle.soundness.proofs.Facts.{sound-facts}
 use Rattle.image.specs.Segment.{allWords}
 use Rattle.image.specs.Image.{Image, imageOf, imageFrom, bytesOf, layoutOf, segmentsIn}
-use Rattle.image.specs.Reader.{readOf, machineAfter, memoryAfter}
-use Rattle.image.specs.Writer.{writeOf}
+use Rattle.image_reader.specs.Reader.{readOf, machineAfter, memoryAfter}
+use Rattle.image_writer.specs.Writer.{writeOf}
 use Rattle.image.proofs.Answers.{passed, test, after, the-value}
 use Rattle.roundtrips.proofs.Accepted.{accepted, longest}
 use Rattle.roundtrips.proofs.AcceptedSound.{accepted-sound}

@@ -17,7 +17,7 @@ use Rattle.image.specs.Head.{headBytes, startWord}
 use Rattle.image.specs.Segment.{Segment, wordCount, segmentOf, segmentsOf, segmentBytes, segmentsBytes}
 use Rattle.image.specs.Domain.{Domain, domainOf, domainsOf, domainBytes, domainsBytes}
 use Rattle.image.specs.Image.{Image, endOf, imageOf, bytesOf}
-use Rattle.image.specs.declared.head.Head.{Head}
+use Rattle.image.specs.declared.Head.{Head}
 use Rattle.image.proofs.Answers.{test, bound}
 use Rattle.image.proofs.Bodies.{body-length}
 use Rattle.image.proofs.Chunks.{chunk-facts, exact-size}

@@ -1,16 +1,14 @@
-// When a machine record is sound (well-formed), and fresh machines.
+// When a machine record is sound (well-formed).
 mod capabilities;
 mod frames;
-pub mod fresh;
-pub mod layout;
 mod registers;
 
 ghost use mathlib.Core.Path.{_≡_};
 ghost use Rattle.soundness.specs.Sound.{soundTest};
 use crate::frames::frames_sound;
-use crate::layout::layout_sound;
 use crate::registers::pointers_sound;
 use crate::registers::registers_sound;
+use layouts::layout_sound;
 use state::record::Machine;
 
 // Whether a record is sound, for any record.

@@ -1,4 +1,4 @@
--- `lent::step` meets its contract: a walk of its MIR, by hand. The record's borrow is opened, the record is copied out and passed to `processor::run::step` (the callee) by value with the words lent on for good, the record that the callee returned is stored in the cell, and the borrow is closed at it.
+-- `lent::step` meets its contract: a walk of its MIR, by hand. The record's borrow is opened, the record is copied out and passed to `processor::step` (the callee) by value with the words lent on for good, the record that the callee returned is stored in the cell, and the borrow is closed at it.
 -- All that the walk knows of the callee is that it meets its contract. Nothing here names a field of the record.
 -- Assumes nothing.
 use mathlib.Core.Path.{_≡_, refl, ap}
@@ -42,15 +42,14 @@ use denote.Triple.Walked.{says, Stays, stay-ref, gave-slice, walkOf, goes-ref, g
 use Rattle.state.specs.declared.record.Machine.{Machine}
 use Rattle.state.proofs.record.Machine as T
 use Rattle.state.proofs.record.Machine.Laws as T′
-use Rattle.processor.specs.Run.{stepCall}
-use Rattle.processor.specs.Rest.{stepAnswer}
-use Rattle.processor.specs.declared.outcome.Stepped.{Stepped}
-use Rattle.processor.proofs.outcome.Stepped as S
-use Rattle.processor.proofs.outcome.Stepped.Laws as S′
-use Rattle.processor.proofs.run.step as callee
-use Rattle.processor.proofs.run.step.Symbol as callee-def
-use Rattle.processor.proofs.run.step.Symbol.{name as #callee}
-use Rattle.processor.proofs.run.step.Met as callee-thm
+use Rattle.processor.specs.Calls.{stepCall, stepAnswer}
+use Rattle.processor.specs.declared.Stepped.{Stepped}
+use Rattle.processor.proofs.Stepped as S
+use Rattle.processor.proofs.Stepped.Laws as S′
+use Rattle.processor.proofs.step as callee
+use Rattle.processor.proofs.step.Symbol as callee-def
+use Rattle.processor.proofs.step.Symbol.{name as #callee}
+use Rattle.processor.proofs.step.Met as callee-thm
 use Rattle.lent.specs.declared.StepResult.{StepResult}
 use Rattle.lent.proofs.StepResult as R
 use Rattle.lent.proofs.StepResult.Laws as R′
@@ -179,4 +178,4 @@ step-spec 𝓤 H 𝓜 𝓖 𝓡 =
     entered 𝓤 H (tripleOf 𝓤 H (𝓖 .A) step.signature (step.spec 𝓤 H (𝓖 .A) (𝓜 .mem) (𝓡 .run)))
     (tables 𝓤 H 𝓜 𝓡 code.env .C) (tables 𝓤 H 𝓜 𝓡 code.env .Λ) #lent·step code.function (code.unfolded 𝓤 H 𝓜 𝓡)
     (step-meets 𝓤 H (𝓖 .A) (givenOf 𝓤 H 𝓜 𝓖) (𝓜 .mem) (𝓡 .run) (tablesOf 𝓤 H 𝓜 (tables 𝓤 H 𝓜 𝓡 code.env))
-    (cited 𝓤 H (Callee 𝓤 H (𝓖 .A) (𝓜 .mem) (𝓡 .run)) 𝓜 𝓡 code.env #callee callee-def.routine code.calls-processor·run·step (callee-thm.met 𝓤 H 𝓜 𝓖 𝓡)))
+    (cited 𝓤 H (Callee 𝓤 H (𝓖 .A) (𝓜 .mem) (𝓡 .run)) 𝓜 𝓡 code.env #callee callee-def.routine code.calls-processor·step (callee-thm.met 𝓤 H 𝓜 𝓖 𝓡)))

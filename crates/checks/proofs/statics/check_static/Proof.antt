@@ -1,6 +1,6 @@
 -- `checks::statics::check_static` meets its contract.
 use borrow.Author.Needs.{needs}
-use Rattle.soundness.proofs.Tests.{answered-true, answered-false}
+use Rattle.layouts.proofs.Tests.{answered-true, answered-false}
 use Rattle.machine.specs.Machine.{staticCheck}
 use Rattle.checks.specs.Judged.{judgedStatic}
 use Rattle.checks.proofs.statics.check_static.Statement.{statement}

@@ -1,20 +1,20 @@
 use borrow.Author.Needs.{needs}
 use mathlib.Core.Path.{_≡_, sym, _∙_}
 use Rattle.state.specs.Record.{noPointer}
-use Rattle.instructions.specs.Reader.{readOf}
-use Rattle.crossings.specs.ArgumentList.{frameOf, frameAnswer}
+use Rattle.memory.specs.Reader.{readOf}
+use Rattle.arguments.specs.ArgumentList.{frameOf, frameAnswer}
 use lib.ListN.{getD}
 use Rattle.crossings.proofs.crossing.enter.Statement.{statement}
 use Rattle.crossings.proofs.crossing.enter.Tie as tie
 use Rattle.crossings.proofs.crossing.enter.Reads as reads
 use Rattle.crossings.proofs.crossing.enter.Lts as lts
-use Rattle.crossings.proofs.arguments.make_frame.Reads as make-frame-reads
+use Rattle.arguments.proofs.make_frame.Reads as make-frame-reads
 use Rattle.crossings.proofs.crossing.at_place.Reads as at-place-reads
 use Rattle.crossings.proofs.crossing.gate_domain_of.Reads as gate-domain-of-reads
 use Rattle.crossings.proofs.crossing.with_tag.Reads as with-tag-reads
-use Rattle.instructions.proofs.pointers.pointer_at.Reads as pointer-at-reads
-use Rattle.instructions.proofs.pointers.stack_of.Reads as stack-of-reads
-use Rattle.instructions.proofs.pointers.with_base.Reads as with-base-reads
+use Rattle.pointers.proofs.pointer_at.Reads as pointer-at-reads
+use Rattle.pointers.proofs.stack_of.Reads as stack-of-reads
+use Rattle.pointers.proofs.with_base.Reads as with-base-reads
 
 -- src/crossing.rt:107:82
 pointer-at-requires : tie.Need-pointer-at-requires

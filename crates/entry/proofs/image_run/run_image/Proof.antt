@@ -2,7 +2,7 @@
 use mathlib.Core.Path.{_≡_, ap, _∙_}
 use borrow.Author.Needs.{needs}
 use lib.ListN.{replicate}
-use Rattle.image.specs.Reader.{readOf, machineAfter}
+use Rattle.image_reader.specs.Reader.{readOf, machineAfter}
 use Rattle.entry.specs.ImageRun.{finalOf, emptyMachine}
 use Rattle.entry.proofs.ImageRuns.{refused-run, passed-run}
 use Rattle.entry.proofs.image_run.run_image.Statement.{statement}

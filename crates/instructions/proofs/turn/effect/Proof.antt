@@ -3,7 +3,7 @@ use borrow.Author.Needs.{needs}
 use mathlib.Core.Bool.{true, false}
 use mathlib.Core.Path.{_≡_, refl, sym, ap, _∙_}
 use borrow.Author.Tests.{eq-eqb, ne-eqb}
-use Rattle.instructions.specs.Reader.{readOf}
+use Rattle.memory.specs.Reader.{readOf}
 use Rattle.instructions.specs.Instruction.{isLoad, isStore, effectOf}
 use Rattle.instructions.specs.Turn.{turnAnswer}
 use Rattle.instructions.proofs.Turns.{load-settles, jump-settles, call-settles}

@@ -2,7 +2,7 @@
 use mathlib.Core.Path.{ap, _∙_}
 use borrow.Author.Needs.{needs}
 use Rattle.state.specs.declared.record.Machine.{Machine}
-use Rattle.image.specs.Reader.{readOf, machineAfter}
+use Rattle.image_reader.specs.Reader.{readOf, machineAfter}
 use Rattle.probe.proofs.Reading.{without-room, with-room}
 use Rattle.probe.proofs.read_image.zenkorv_read.Statement.{statement}
 use Rattle.probe.proofs.read_image.zenkorv_read.Tie as tie

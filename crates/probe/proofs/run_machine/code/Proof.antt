@@ -2,9 +2,9 @@
 use mathlib.Core.Path.{_≡_, refl}
 use Prim.Native.Nat.{ℕ, _+_}
 use native.Mathlib.Omega.{arith}
-use Rattle.processor.specs.declared.outcome.End.{End}
-use Rattle.processor.specs.declared.outcome.End.the-variants as end
-use Rattle.processor.specs.Rest.{endAnswer}
+use Rattle.runs.specs.declared.outcome.End.{End}
+use Rattle.runs.specs.declared.outcome.End.the-variants as end
+use Rattle.runs.specs.Rest.{endAnswer}
 use Rattle.probe.specs.Runs.{endCode}
 use borrow.Author.Needs.{needs}
 use Rattle.probe.proofs.run_machine.code.Statement.{statement}

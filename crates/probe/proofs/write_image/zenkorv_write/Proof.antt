@@ -3,7 +3,7 @@ use native.Mathlib.Omega.{arith}
 use mathlib.Core.Path.{_≡_, ap, _∙_}
 use borrow.Author.Needs.{needs}
 use Rattle.state.specs.declared.record.Machine.{Machine}
-use Rattle.image.specs.Writer.{writeOf, writtenOf, outputAfter}
+use Rattle.image_writer.specs.Writer.{writeOf, writtenOf, outputAfter}
 use Rattle.probe.specs.Images.{imageWritten, outputAfterWrite}
 use Rattle.probe.proofs.Writing.{code-accepted, code-refused, written-short}
 use Rattle.probe.proofs.write_image.zenkorv_write.Statement.{statement}

@@ -1,0 +1,79 @@
+-- The argument list of a call through a gate, and the frame made of it.
+use Prim.Native.Nat.{ℕ, zero, suc, _+_, _*_}
+use mathlib.Core.Bool.{Bool, true, false, not}
+use mathlib.Core.List.{List}
+use lib.Dec.{leb}
+use lib.IntN.{pos}
+use lib.ListN.{replicate, set}
+use Rattle.words.specs.Answer.{Answer, refuse, ok, _>>=_, _>>_, require, if_then_else_}
+use Rattle.words.specs.Numbers.{badArgument}
+use Rattle.words.specs.PointerWord.{pointerOf}
+use Rattle.words.specs.ModeWord.{modeOf}
+use Rattle.words.specs.declared.pointer.Pointer.{Pointer}
+use Rattle.words.specs.declared.mode.Mode.{Mode}
+use Rattle.state.specs.declared.record.Capability.{Capability}
+use Rattle.state.specs.declared.record.Frame.{Frame}
+use Rattle.state.specs.Record.{noCapability}
+use Rattle.machine.specs.Live.{passedOf}
+use Rattle.arguments.specs.declared.Rows.{Rows}
+use Rattle.arguments.specs.declared.Framed.{Framed}
+use Rattle.memory.specs.Reader.{Reader}
+use Rattle.addressing.specs.Effective.{displacedBy}
+
+-- word k of the list at pointer a, read under its tag; 23 first
+unfoldable pub listWord : Reader → Pointer → ℕ → Answer ℕ
+listWord read a k = displacedBy a (pos k) >>= read
+
+-- an untagged argument's source is the caller; a tagged one's is passed on
+unfoldable pub sourceOf : ℕ → ℕ → Frame → Pointer → Mode → Answer ℕ
+sourceOf caller depth live p m =
+    if p .tag then passedOf depth live (p .segment) (p .word) (m .length) (m .read) (m .write) else ok caller
+
+-- the capability of an argument, of its pointer and its mode word
+unfoldable pub capabilityOf : ℕ → ℕ → Frame → Pointer → ℕ → Answer Capability
+capabilityOf caller depth live p mode =
+    modeOf mode (p .word) >>= (λ m. sourceOf caller depth live p m >>= (λ source.
+    ok (record { word = p .word; length = m .length; segment = p .segment; source = source; read = m .read; write = m .write })))
+
+-- the pointer in word k of the list
+unfoldable pub listPointer : Reader → Pointer → ℕ → Answer Pointer
+listPointer read a k = listWord read a k >>= pointerOf
+
+-- argument i: its pointer word, then its mode word
+unfoldable pub argumentOf : Reader → Pointer → ℕ → ℕ → Frame → ℕ → Answer Capability
+argumentOf read a caller depth live i =
+    listPointer read a (3 + 2 * i) >>= (λ p. listWord read a (3 + 2 * i + 1) >>= (λ v. capabilityOf caller depth live p v))
+
+-- the rows of a frame with the k arguments from argument i on put in
+unfoldable pub argumentsFrom : Reader → Pointer → ℕ → ℕ → Frame → ℕ → ℕ → List Capability → Answer (List Capability)
+argumentsFrom read a caller depth live zero i rows = ok rows
+argumentsFrom read a caller depth live (suc k) i rows =
+    argumentOf read a caller depth live i >>= (λ c. argumentsFrom read a caller depth live k (i + 1) (set rows i c))
+
+-- the read capability for the list itself
+abbrev pub listCapability : Pointer → ℕ → ℕ → Capability
+listCapability a caller n = record { word = a .word; length = 3 + 2 * n; segment = a .segment; source = caller; read = true; write = false }
+
+-- the frame with the rows of n arguments, and last the list itself
+abbrev pub filledOf : List Capability → Pointer → Pointer → Pointer → ℕ → ℕ → Frame
+filledOf rows a s back caller n =
+    record { capabilities = set rows n (listCapability a caller n); s = s; back = back; count = n + 1; domain = caller }
+
+-- from the return location on: it is untagged; word 2 is not read; then the n arguments
+unfoldable pub frameAfter : Reader → Pointer → Pointer → ℕ → ℕ → Frame → ℕ → Answer Frame
+frameAfter read a s caller depth live n =
+    listPointer read a 1 >>= (λ back. require (not (back .tag)) badArgument >>
+    (displacedBy a (pos 2) >>
+    (argumentsFrom read a caller depth live n 0 (replicate 9 noCapability) >>= (λ rows. ok (filledOf rows a s back caller n)))))
+
+-- the frame of a call: word 0 of the list is the number of arguments
+unfoldable pub frameOf : Reader → Pointer → Pointer → ℕ → ℕ → Frame → Answer Frame
+frameOf read a s caller depth live =
+    listWord read a 0 >>= (λ n. require (leb n 8) badArgument >> frameAfter read a s caller depth live n)
+
+-- what the code's answers stand for
+abbrev pub rowsAnswer : Rows → Answer (List Capability)
+rowsAnswer r = if r .refused then refuse (r .number) else ok (r .rows)
+
+abbrev pub frameAnswer : Framed → Answer Frame
+frameAnswer r = if r .refused then refuse (r .number) else ok (r .frame)

@@ -1,0 +1,22 @@
+-- `fresh::fresh` meets its contract.
+use Rattle.fresh.specs.Fresh.{freshOf}
+use borrow.Author.Needs.{needs}
+use Rattle.fresh.proofs.fresh.Statement.{statement}
+use Rattle.fresh.proofs.fresh.Tie as tie
+
+stack-of-requires : tie.Need-stack-of-requires
+stack-of-requires c κs = search needs
+
+array-set-from-pointers : tie.Need-array-set-from-pointers
+array-set-from-pointers c = search needs
+
+zero-frame-requires : tie.Need-zero-frame-requires
+zero-frame-requires c κs = search needs
+
+returns : tie.Need-returns
+unfolding freshOf
+returns c = rw (c .before .stack-of .ensures, c .zero-frame .ensures)
+
+pub fresh-spec : {M : Type 1} → statement M
+fresh-spec =
+    tie.close (tie.spec stack-of-requires array-set-from-pointers zero-frame-requires returns)

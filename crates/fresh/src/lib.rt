@@ -1,0 +1,80 @@
+// Fresh machines.
+ghost use mathlib.Core.Path.{_≡_};
+ghost use lib.ListN.{getD};
+ghost use Rattle.fresh.specs.Fresh.{zeroFrame, freshOf};
+use state::record::Capability;
+use state::record::Frame;
+use state::record::Layout;
+use state::record::Machine;
+use state::record::Registers;
+use words::pointer::Pointer;
+
+// A domain's stack segment, and 0 where there is no such domain.
+fn stack_of(stacks: [u8; 8], domain: u8) -> u8
+    ensures { λ r. ⌜ r ≡ getD stacks domain 0 ⌝ }
+{
+    let d = domain as usize;
+    if d < 8 { stacks[d] } else { 0 }
+}
+
+// A frame that is not in use.
+pub fn zero_frame() -> Frame
+    ensures { λ r. ⌜ r ≡ zeroFrame ⌝ }
+{
+    let c = Capability {
+        word: 0,
+        length: 0,
+        segment: 0,
+        source: 0,
+        read: false,
+        write: false,
+    };
+    let p = Pointer {
+        word: 0,
+        segment: 0,
+        tag: false,
+    };
+    let capabilities = [c; 9];
+    Frame {
+        capabilities,
+        s: p,
+        back: p,
+        count: 0,
+        domain: 0,
+    }
+}
+
+// The machine of a layout before its first instruction.
+pub fn fresh(layout: Layout) -> Machine
+    ensures { λ r. ⌜ r ≡ freshOf layout ⌝ }
+{
+    let start = layout.start;
+    let stacks = layout.stacks;
+    let stack = stack_of(stacks, start.domain);
+    let p = Pointer {
+        word: 0,
+        segment: 0,
+        tag: false,
+    };
+    let mut pointers = [p; 8];
+    pointers[2] = Pointer {
+        word: 0,
+        segment: stack,
+        tag: false,
+    };
+    let frame = zero_frame();
+    let frames = [frame; 8];
+    let registers = Registers {
+        a: 0,
+        word: start.word,
+        segment: start.segment,
+        domain: start.domain,
+    };
+    Machine {
+        layout,
+        registers,
+        pointers,
+        frames,
+        depth: 0,
+    }
+}

@@ -1,0 +1,119 @@
+// A whole image, judged before anything is stored.
+ghost use mathlib.Core.Path.{_≡_};
+ghost use Prim.Native.Nat.{_≤_};
+ghost use lib.ListN.{drop};
+ghost use Rattle.words.specs.Answer.{refuse};
+ghost use Rattle.image_reader.specs.Answers.{verdictAnswer};
+ghost use Rattle.image.specs.Image.{endOf, imageOf, layoutOf};
+ghost use Rattle.image_reader.specs.Rows.{afterSegments};
+ghost use Rattle.image_reader.specs.Reader.{mapped, judgedAnswer};
+use crate::bytes::left;
+use crate::chunk::Verdict;
+use crate::chunk::exact;
+use crate::domain::domain_chunks;
+use crate::head::HeadAnswer;
+use crate::head::head_chunk;
+use crate::segment::Place;
+use crate::segment::Segments;
+use crate::segment::segment_chunks;
+use image::Head;
+use state::record::Layout;
+use state::record::Start;
+
+// The layout of an image that is passed.
+pub struct Judged {
+    pub layout: Layout,
+    pub verdict: Verdict,
+}
+
+fn refused(n: u8) -> Judged
+    ensures { λ r. ⌜ judgedAnswer r ≡ refuse n ⌝ }
+{
+    let layout = Layout {
+        lengths: [0; 16],
+        gates: [0; 16],
+        start: Start {
+            word: 0,
+            segment: 0,
+            domain: 0,
+        },
+        gatedomains: [0; 16],
+        stacks: [0; 8],
+        rights: [0; 128],
+        segments: 0,
+        domains: 0,
+    };
+    Judged {
+        layout,
+        verdict: Verdict::Refused(n),
+    }
+}
+
+// Kind 4 at a place, and no bytes after it.
+fn end(image: &[u8], at: usize) -> Verdict
+    ensures { λ r. ⌜ verdictAnswer r ≡ endOf (drop at (now (image .entry))) ⌝ }
+{
+    match exact(image, at, 4, 0) {
+        Verdict::Refused(n) => Verdict::Refused(n),
+        Verdict::Passed => {
+            if left(image, at) != 4 {
+                return Verdict::Refused(6);
+            }
+            Verdict::Passed
+        }
+    }
+}
+
+// What comes after the segments.
+fn after_segments(image: &[u8], at: usize, h: Head, s: Segments) -> Judged
+    requires { ⌜ (h .segments ≤ 16) × (h .domains ≤ 8) ⌝ }
+    ensures { λ r. ⌜ judgedAnswer r ≡ afterSegments h (record { lengths = s .lengths; gates = s .gates; gatedomains = s .gatedomains; rest = drop at (now (image .entry)) }) ⌝ }
+{
+    let d = domain_chunks(image, at, h.domains, h.segments);
+    let place = d.place;
+    match place {
+        Place::Refused(n) => refused(n),
+        Place::At(at) => match end(image, at) {
+            Verdict::Refused(n) => refused(n),
+            Verdict::Passed => {
+                let lengths = s.lengths;
+                let gates = s.gates;
+                let gatedomains = s.gatedomains;
+                let stacks = d.stacks;
+                let rights = d.rights;
+                let start = h.start;
+                let layout = Layout {
+                    lengths,
+                    gates,
+                    start,
+                    gatedomains,
+                    stacks,
+                    rights,
+                    segments: h.segments,
+                    domains: h.domains,
+                };
+                Judged {
+                    layout,
+                    verdict: Verdict::Passed,
+                }
+            }
+        },
+    }
+}
+
+// The layout that an image gives, or its refusal.
+pub fn judge(image: &[u8]) -> Judged
+    ensures { λ r. ⌜ judgedAnswer r ≡ mapped layoutOf (imageOf (now (image .entry))) ⌝ }
+{
+    match head_chunk(image) {
+        HeadAnswer::Refused(n) => refused(n),
+        HeadAnswer::Head(h) => {
+            let s = segment_chunks(image, 12, h.segments, h.domains);
+            let place = s.place;
+            match place {
+                Place::Refused(n) => refused(n),
+                Place::At(at) => after_segments(image, at, h, s),
+            }
+        }
+    }
+}

@@ -1,0 +1,55 @@
+-- A test of each of n numbers: how a loop comes to it, and what it says of each.
+use Prim.Native.Nat.{ℕ, zero, suc, _+_, _-_, _<_, _≤_}
+use native.Mathlib.Omega.{arith}
+use native.Mathlib.Decide.{ℕ-discrete}
+use mathlib.Core.Path.{_≡_, refl, _∙_, ap, subst}
+use mathlib.Core.Bool.{Bool, true, false}
+use Rattle.layouts.specs.SoundLayout.{allFrom}
+use Rattle.layouts.proofs.Tests.{both, join}
+
+-- a loop that has passed i numbers has the rest left to test
+abbrev pub Left : ℕ → (ℕ → Bool) → ℕ → Type 0
+Left n p i = allFrom n 0 p ≡ allFrom (n - i) i p
+
+pub none : (n : ℕ) (p : ℕ → Bool) → Left n p 0
+none n p = ap (λ (k : ℕ). allFrom k 0 p) (omega arith)
+
+module _ (n : ℕ) (p : ℕ → Bool) (i : ℕ) (l : Left n p i) where
+  pub done : n ≤ i → allFrom n 0 p ≡ true
+  unfolding allFrom
+  done h = l ∙ ap (λ (k : ℕ). allFrom k i p) (let z : n - i ≡ 0 = omega arith in z)
+
+  module _ (less : i < n) where
+    next : n - i ≡ suc (n - (i + 1))
+    next = omega arith
+
+    pub more : p i ≡ true → Left n p (i + 1)
+    unfolding allFrom
+    more t = l ∙ ap (λ (k : ℕ). allFrom k i p) next ∙ simp t
+
+    pub fails : p i ≡ false → allFrom n 0 p ≡ false
+    unfolding allFrom
+    fails t = l ∙ ap (λ (k : ℕ). allFrom k i p) next ∙ simp t
+
+from : (n i : ℕ) (p : ℕ → Bool) → allFrom n i p ≡ true → (j : ℕ) → i ≤ j → j < i + n → p j ≡ true
+unfolding allFrom
+from zero i p e j a b = absurd (omega arith)
+from (suc n) i p e j a b =
+    let t = both (p i) (allFrom n (i + 1) p) e in
+    by (ℕ-discrete i j) (t .0) (λ x y. from n (i + 1) p (t .1) j x y)
+  where
+    by : Dec (i ≡ j) → p i ≡ true → (i + 1 ≤ j → j < i + 1 + n → p j ≡ true) → p j ≡ true
+    by (yes q) t r = subst (λ (k : ℕ). p k ≡ true) q t
+    by (no q) t r = r (omega (arith, q)) (omega arith)
+
+to : (n i : ℕ) (p : ℕ → Bool) → ((j : ℕ) → j < i + n → p j ≡ true) → allFrom n i p ≡ true
+unfolding allFrom
+to zero i p h = refl
+to (suc n) i p h = join (h i (omega arith)) (to n (i + 1) p (λ j l. h j (omega arith)))
+
+-- what the test of all says of each, and back
+pub each : (n : ℕ) (p : ℕ → Bool) → allFrom n 0 p ≡ true → (j : ℕ) → j < n → p j ≡ true
+each n p e j h = from n 0 p e j (omega arith) (omega arith)
+
+pub all : (n : ℕ) (p : ℕ → Bool) → ((j : ℕ) → j < n → p j ≡ true) → allFrom n 0 p ≡ true
+all n p h = to n 0 p (λ j l. h j (omega arith))

@@ -1,0 +1,102 @@
+-- The loop of moves, against the moves that the definition gives.
+use Prim.Native.Nat.{ℕ, suc, _+_, _-_, _<_, _≤_}
+use native.Mathlib.Omega.{arith}
+use mathlib.Core.List.{List}
+use mathlib.Core.Path.{_≡_, refl, sym, ap, _∙_}
+use lib.ListN.{length, set, length-set}
+use Rattle.words.specs.Answer.{Answer, refuse, ok, _>>=_}
+use Rattle.words.specs.declared.pointer.Pointer.{Pointer}
+use Rattle.state.specs.declared.record.Frame.{Frame}
+use Rattle.state.specs.declared.record.Registers.{Registers}
+use Rattle.machine.specs.Reference.{referenceOf}
+use Rattle.machine.specs.declared.flag.Access.the-variants as access
+use Rattle.instructions.specs.declared.turn.Event.{Event}
+use Rattle.instructions.specs.declared.turn.Event.the-variants as event
+use Rattle.memory.specs.Reader.{stored, writtenOf}
+use Rattle.instructions.specs.Plan.{Plan, halt, move, store, enter, leave}
+use Rattle.instructions.specs.Turn.{Turned, moved, eventAnswer, settledWords, planned, turnOf, turnWords}
+use Rattle.moves.specs.Moves.{Paused, paused, onward, movesFrom}
+
+-- an event at which the moves pause
+abbrev pub Stops : Event → Type 0
+Stops event.Moved = ⊥
+Stops (event.Pointed i p) = ⊥
+Stops event.Halted = Unit {0}
+Stops (event.Entering p) = Unit {0}
+Stops (event.Leaving p) = Unit {0}
+Stops (event.Faulted f) = Unit {0}
+
+pub stops : (e : Event) → (e ≡ event.Moved → ⊥) → ((i : ℕ) (p : Pointer) → e ≡ event.Pointed i p → ⊥) → Stops e
+stops event.Moved m o = m refl
+stops (event.Pointed i p) m o = o i p refl
+stops event.Halted m o = tt
+stops (event.Entering p) m o = tt
+stops (event.Leaving p) m o = tt
+stops (event.Faulted f) m o = tt
+
+stored-length : (words : List ℕ) (v : ℕ) (i : Answer ℕ) → length (stored words v i) ≡ length words
+stored-length words v (refuse n) = refl
+stored-length words v (ok i) = length-set words i v
+
+module _ (lengths gates rights stacks bases : List ℕ) (depth : ℕ) (frame : Frame) where
+  settled-length : (words : List ℕ) (r : Registers) (pointers : List Pointer) (plan : Answer Plan) → length (settledWords lengths rights bases words depth frame r pointers plan) ≡ length words
+  unfolding writtenOf
+  settled-length words r pointers (refuse n) = refl
+  settled-length words r pointers (ok halt) = refl
+  settled-length words r pointers (ok (move a s w ps)) = refl
+  settled-length words r pointers (ok (store p v)) = stored-length words v (referenceOf lengths rights bases (r .domain) depth frame access.Write p)
+  settled-length words r pointers (ok (enter p)) = refl
+  settled-length words r pointers (ok (leave p)) = refl
+
+  -- an instruction keeps the length of the memory
+  pub turn-length : (words : List ℕ) (r : Registers) (pointers : List Pointer) → length (turnWords lengths gates rights stacks bases words depth frame r pointers) ≡ length words
+  unfolding turnWords
+  turn-length words r pointers = settled-length words r pointers (planned lengths gates rights stacks bases words depth frame r pointers)
+
+  -- the moves have come to registers, pointers and words after n instructions
+  pub record Moving (limit from : ℕ) (r₀ : Registers) (ps₀ : List Pointer) (words₀ : List ℕ) (n : ℕ) (r : Registers) (ps : List Pointer) (words : List ℕ) : Type 0 where
+    pub same : length words ≡ length words₀
+    pub rest : movesFrom lengths gates rights stacks bases depth frame (limit - from) from r₀ ps₀ words₀ ≡ movesFrom lengths gates rights stacks bases depth frame (limit - n) n r ps words
+
+  pub starts : (limit from : ℕ) (r : Registers) (ps : List Pointer) (words : List ℕ) → Moving limit from r ps words from r ps words
+  starts limit from r ps words = record { same = refl; rest = refl }
+
+  module _ (limit from : ℕ) (r₀ : Registers) (ps₀ : List Pointer) (words₀ : List ℕ) (n : ℕ) (r : Registers) (ps : List Pointer) (words : List ℕ) (l : Moving limit from r₀ ps₀ words₀ n r ps words) where
+    abbrev whole : Paused
+    whole = movesFrom lengths gates rights stacks bases depth frame (limit - from) from r₀ ps₀ words₀
+
+    abbrev after : List ℕ
+    after = turnWords lengths gates rights stacks bases words depth frame r ps
+
+    abbrev turn : Answer Turned
+    turn = turnOf lengths gates rights stacks bases words depth frame r ps
+
+    pub spent : limit ≤ n → whole ≡ paused r ps words n event.Moved
+    unfolding movesFrom
+    spent h = l .rest ∙ ap (λ (k : ℕ). movesFrom lengths gates rights stacks bases depth frame k n r ps words) (let z : limit - n ≡ 0 = omega arith in z)
+
+    module _ (less : n < limit) where
+      next : whole ≡ onward (movesFrom lengths gates rights stacks bases depth frame (limit - (n + 1)) (n + 1)) n r ps after turn
+      unfolding movesFrom
+      next = l .rest ∙ ap (λ (k : ℕ). movesFrom lengths gates rights stacks bases depth frame k n r ps words) (let z : limit - n ≡ suc (limit - (n + 1)) = omega arith in z)
+
+      -- an instruction that moves on
+      pub goes : (s : Registers) (qs : List Pointer) (now : List ℕ) → turn ≡ ok (moved s qs) → now ≡ after → Moving limit from r₀ ps₀ words₀ (n + 1) s qs now
+      goes s qs now m w =
+          record {
+            same = ap length w ∙ turn-length words r ps ∙ l .same;
+            rest = next ∙ rw m refl ∙ ap (movesFrom lengths gates rights stacks bases depth frame (limit - (n + 1)) (n + 1) s qs) (sym w);
+          }
+
+      -- an instruction that does not
+      pub pauses : (s : Registers) (e : Event) → eventAnswer s ps e ≡ turn → Stops e → whole ≡ paused r ps after n e
+      pauses s e h stops = next ∙ ap (onward _ n r ps after) (sym h) ∙ by e stops
+        where
+          by : (x : Event) → Stops x
+              → onward (movesFrom lengths gates rights stacks bases depth frame (limit - (n + 1)) (n + 1)) n r ps after (eventAnswer s ps x) ≡ paused r ps after n x
+          by event.Moved o = absurd o
+          by (event.Pointed i p) o = absurd o
+          by event.Halted o = refl
+          by (event.Entering p) o = refl
+          by (event.Leaving p) o = refl
+          by (event.Faulted f) o = refl

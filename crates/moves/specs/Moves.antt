@@ -1,0 +1,36 @@
+-- A run as the loop makes it: instructions that are no crossing, up to the first that ends a run or crosses.
+use Prim.Native.Nat.{ℕ, zero, suc, _+_, _-_}
+use mathlib.Core.Bool.{Bool, true, false}
+use mathlib.Core.List.{List}
+use Rattle.words.specs.Answer.{Answer, refuse, ok}
+use Rattle.words.specs.declared.pointer.Pointer.{Pointer}
+use Rattle.state.specs.declared.record.Frame.{Frame}
+use Rattle.state.specs.declared.record.Registers.{Registers}
+use Rattle.instructions.specs.declared.turn.Event.{Event}
+use Rattle.instructions.specs.declared.turn.Event.the-variants as event
+use Rattle.instructions.specs.Turn.{Turned, ended, moved, entering, leaving, turnOf, turnWords}
+use Rattle.moves.specs.declared.Pause.{Pause}
+
+-- where the moves pause: before the instruction that the event tells, after count completed ones; Moved where the limit is reached
+pub record Paused : Type 0 where
+  pub pause : Pause
+  pub words : List ℕ
+
+abbrev pub paused : Registers → List Pointer → List ℕ → ℕ → Event → Paused
+paused r pointers words n e = record { pause = record { pointers = pointers; registers = r; event = e; count = n }; words = words }
+
+-- after an instruction: go says how it goes on
+abbrev pub onward : (Registers → List Pointer → List ℕ → Paused) → ℕ → Registers → List Pointer → List ℕ → Answer Turned → Paused
+onward go n r pointers next (refuse f) = paused r pointers next n (event.Faulted f)
+onward go n r pointers next (ok ended) = paused r pointers next n event.Halted
+onward go n r pointers next (ok (moved s ps)) = go s ps next
+onward go n r pointers next (ok (entering p)) = paused r pointers next n (event.Entering p)
+onward go n r pointers next (ok (leaving p)) = paused r pointers next n (event.Leaving p)
+
+-- at most k moves more, n completed so far
+unfoldable pub movesFrom : List ℕ → List ℕ → List ℕ → List ℕ → List ℕ → ℕ → Frame → ℕ → ℕ → Registers → List Pointer → List ℕ → Paused
+movesFrom lengths gates rights stacks bases depth frame zero n r pointers words = paused r pointers words n event.Moved
+movesFrom lengths gates rights stacks bases depth frame (suc k) n r pointers words =
+    onward (movesFrom lengths gates rights stacks bases depth frame k (n + 1)) n r pointers
+    (turnWords lengths gates rights stacks bases words depth frame r pointers)
+    (turnOf lengths gates rights stacks bases words depth frame r pointers)

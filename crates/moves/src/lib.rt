@@ -1,0 +1,106 @@
+// Instructions one after the other, up to the first that ends a run or crosses.
+ghost use mathlib.Core.Path.{_≡_};
+ghost use Prim.Native.Nat.{_-_};
+ghost use Rattle.moves.specs.Moves.{movesFrom};
+use instructions::turn::Event;
+use instructions::turn::take_turn;
+use pointers::with_pointer;
+use state::record::Frame;
+use state::record::Registers;
+use words::pointer::Pointer;
+
+// Where the moves pause: before the instruction that the event tells, or at the limit (Moved), after count completed ones.
+pub struct Pause {
+    pub pointers: [Pointer; 8],
+    pub registers: Registers,
+    pub event: Event,
+    pub count: u16,
+}
+
+// Moves from the n-th instruction of a run on, up to its limit. The frame is the live one: it changes at a crossing only. The registers lie in locals of their own, so that each is kept in a register.
+pub fn make_moves<'a>(
+    lengths: &'a [u16; 16],
+    gates: &'a [u16; 16],
+    rights: &'a [u8; 128],
+    stacks: &'a [u8; 8],
+    bases: &'a [u32; 16],
+    words: &mut [u32],
+    depth: u8,
+    frame: Frame,
+    from: u16,
+    limit: u16,
+    r: Registers,
+    ps: [Pointer; 8],
+) -> Pause
+    ensures { λ t. ⌜ t ≡ movesFrom (now (lengths .entry)) (now (gates .entry)) (now (rights .entry)) (now (stacks .entry)) (now (bases .entry)) depth frame (limit - from) from r ps (now (words .entry)) .pause ⌝ }
+    ensures { λ t. ⌜ now (words .exit) ≡ movesFrom (now (lengths .entry)) (now (gates .entry)) (now (rights .entry)) (now (stacks .entry)) (now (bases .entry)) depth frame (limit - from) from r ps (now (words .entry)) .words ⌝ }
+{
+    let mut a = r.a;
+    let mut word = r.word;
+    let mut segment = r.segment;
+    let mut domain = r.domain;
+    let mut pointers = ps;
+    let mut n = from;
+    while n < limit {
+        let t = take_turn(
+            lengths,
+            gates,
+            rights,
+            stacks,
+            bases,
+            words,
+            depth,
+            frame,
+            Registers {
+                a,
+                word,
+                segment,
+                domain,
+            },
+            pointers,
+        );
+        let event = t.event;
+        match event {
+            Event::Moved => {
+                a = t.registers.a;
+                word = t.registers.word;
+                segment = t.registers.segment;
+                domain = t.registers.domain;
+                n += 1;
+            }
+            Event::Pointed(i, p) => {
+                a = t.registers.a;
+                word = t.registers.word;
+                segment = t.registers.segment;
+                domain = t.registers.domain;
+                let pointed = with_pointer(pointers, i, p);
+                pointers = pointed;
+                n += 1;
+            }
+            other => {
+                return Pause {
+                    pointers,
+                    registers: Registers {
+                        a,
+                        word,
+                        segment,
+                        domain,
+                    },
+                    event: other,
+                    count: n,
+                };
+            }
+        }
+    }
+    Pause {
+        pointers,
+        registers: Registers {
+            a,
+            word,
+            segment,
+            domain,
+        },
+        event: Event::Moved,
+        count: n,
+    }
+}

@@ -1,0 +1,123 @@
+-- Bounds of a run's moves: what is counted is below the limit, and an entry has a frame free.
+use Prim.Native.Nat.{ℕ, zero, suc, _+_, _-_, _<_, _≤_}
+use native.Mathlib.Omega.{arith}
+use mathlib.Core.Bool.{Bool, true, false}
+use mathlib.Core.List.{List}
+use mathlib.Core.Path.{_≡_, refl, sym, ap, _∙_}
+use lib.Dec.{eqb}
+use lib.ListN.{length, getD}
+use Rattle.words.specs.Answer.{Answer, refuse, ok, _>>=_, if_then_else_}
+use Rattle.words.specs.declared.pointer.Pointer.{Pointer}
+use Rattle.state.specs.declared.record.Frame.{Frame}
+use Rattle.state.specs.declared.record.Registers.{Registers}
+use Rattle.machine.specs.declared.flag.Access.the-variants as access
+use Rattle.machine.specs.Reference.{verdictOf}
+use Rattle.instructions.specs.declared.turn.Event.{Event}
+use Rattle.instructions.specs.declared.turn.Event.the-variants as event
+use Rattle.instructions.specs.Plan.{Plan, halt, move, store, enter, leave}
+use Rattle.memory.specs.Reader.{readOf, fetchOf}
+use Rattle.instructions.specs.Turn.{Turned, ended, moved, entering, leaving, settled, planned, turnOf, turnWords}
+use Rattle.crossings.specs.Crossing.{Changes, enterParts, leaveCheck, leaveParts}
+use Rattle.arguments.specs.ArgumentList.{frameOf}
+use Rattle.state.specs.Record.{noPointer}
+use Rattle.moves.specs.Moves.{Paused, paused, onward, movesFrom}
+use Rattle.runs.specs.Rest.{Countable, Rest, ends, goes, restAfter, restOf}
+use Rattle.runs.proofs.Free.{Free, plan-free}
+use Rattle.moves.proofs.Moving.{turn-length}
+
+-- an event that ends the moves before the limit, after low instructions at least, and finds a frame free where it enters
+abbrev pub Fine : ℕ → ℕ → ℕ → ℕ → Event → Type 0
+Fine depth low limit n event.Moved = Unit {0}
+Fine depth low limit n (event.Pointed i p) = Unit {0}
+Fine depth low limit n event.Halted = n < limit
+Fine depth low limit n (event.Faulted f) = Unit {0}
+Fine depth low limit n (event.Entering p) = (n < limit) × ((low ≤ n) × (depth < 8))
+Fine depth low limit n (event.Leaving p) = (n < limit) × (low ≤ n)
+
+pub fine-countable : (depth low limit n : ℕ) → limit ≤ 65535 → (e : Event) → Fine depth low limit n e → Countable n e
+fine-countable depth low limit n h event.Moved f = tt
+fine-countable depth low limit n h (event.Pointed i p) f = tt
+fine-countable depth low limit n h event.Halted f = omega (arith, f)
+fine-countable depth low limit n h (event.Faulted k) f = tt
+fine-countable depth low limit n h (event.Entering p) f = omega (arith, f .0)
+fine-countable depth low limit n h (event.Leaving p) f = omega (arith, f .0)
+
+abbrev FreeTurn : ℕ → Answer Turned → Type 0
+FreeTurn depth (refuse n) = Unit {0}
+FreeTurn depth (ok ended) = Unit {0}
+FreeTurn depth (ok (moved r ps)) = Unit {0}
+FreeTurn depth (ok (entering p)) = depth < 8
+FreeTurn depth (ok (leaving p)) = Unit {0}
+
+either-free : (depth : ℕ) (t : Bool) (r : Registers) (ps : List Pointer) (n : ℕ) → FreeTurn depth (if t then ok (moved r ps) else refuse n)
+either-free depth true r ps n = tt
+either-free depth false r ps n = tt
+
+module _ (lengths gates rights stacks bases : List ℕ) (depth : ℕ) (frame : Frame) where
+  settled-free : (words : List ℕ) (r : Registers) (ps : List Pointer) (plan : Answer Plan) → Free depth plan → FreeTurn depth (plan >>= settled lengths rights bases words depth frame r ps)
+  settled-free words r ps (refuse n) f = tt
+  settled-free words r ps (ok halt) f = tt
+  settled-free words r ps (ok (move a s w qs)) f = tt
+  settled-free words r ps (ok (store p v)) f = either-free depth (eqb (verdictOf lengths rights (r .domain) depth frame access.Write p) 0) _ _ _
+  settled-free words r ps (ok (enter p)) f = f
+  settled-free words r ps (ok (leave p)) f = tt
+
+  turn-free : (words : List ℕ) (r : Registers) (ps : List Pointer) → FreeTurn depth (turnOf lengths gates rights stacks bases words depth frame r ps)
+  unfolding turnOf
+  turn-free words r ps =
+      settled-free words r ps (planned lengths gates rights stacks bases words depth frame r ps)
+      (plan-free depth lengths gates rights stacks r ps (readOf lengths rights bases words (r .domain) depth frame) (fetchOf lengths rights bases words (r .domain) (r .segment) (r .word)))
+
+  abbrev from : ℕ → ℕ → Registers → List Pointer → List ℕ → Paused
+  from = movesFrom lengths gates rights stacks bases depth frame
+
+  pub moves-fine : (low limit k n : ℕ) → low ≤ n → n + k ≡ limit → (r : Registers) (ps : List Pointer) (words : List ℕ) → Fine depth low limit (from k n r ps words .pause .count) (from k n r ps words .pause .event)
+  unfolding movesFrom
+  moves-fine low limit zero n h e r ps words = tt
+  moves-fine low limit (suc k) n h e r ps words =
+      by (moves-fine low limit k (n + 1) (omega arith) (omega arith)) (turnOf lengths gates rights stacks bases words depth frame r ps) (turn-free words r ps)
+    where
+      by : ((s : Registers) (qs : List Pointer) (v : List ℕ) → Fine depth low limit (from k (n + 1) s qs v .pause .count) (from k (n + 1) s qs v .pause .event))
+          → (t : Answer Turned) → FreeTurn depth t
+          → let p = onward (from k (n + 1)) n r ps (turnWords lengths gates rights stacks bases words depth frame r ps) t in Fine depth low limit (p .pause .count) (p .pause .event)
+      by more (refuse f) free = tt
+      by more (ok ended) free = omega arith
+      by more (ok (moved s qs)) free = more s qs _
+      by more (ok (entering p)) free = (omega arith, (h, free))
+      by more (ok (leaving p)) free = (omega arith, h)
+
+  pub moves-length : (k n : ℕ) (r : Registers) (ps : List Pointer) (words : List ℕ) → length (from k n r ps words .words) ≡ length words
+  unfolding movesFrom
+  moves-length zero n r ps words = refl
+  moves-length (suc k) n r ps words =
+      by (moves-length k (n + 1)) (turnOf lengths gates rights stacks bases words depth frame r ps) (turnWords lengths gates rights stacks bases words depth frame r ps) (turn-length lengths gates rights stacks bases depth frame words r ps)
+    where
+      by : ((s : Registers) (qs : List Pointer) (v : List ℕ) → length (from k (n + 1) s qs v .words) ≡ length v)
+          → (t : Answer Turned) (next : List ℕ) → length next ≡ length words → length (onward (from k (n + 1)) n r ps next t .words) ≡ length words
+      by more (refuse f) next h = h
+      by more (ok ended) next h = h
+      by more (ok (moved s qs)) next h = more s qs next ∙ h
+      by more (ok (entering p)) next h = h
+      by more (ok (leaving p)) next h = h
+
+-- a rest that goes on has a row for its frame, and has counted
+abbrev pub Room : ℕ → ℕ → Rest → Type 0
+Room low limit (ends r ps n e) = Unit {0}
+Room low limit (goes n row depth c) = (row < 8) × ((depth ≤ 8) × ((low < n) × (n ≤ limit)))
+
+after-room : (low limit n : ℕ) (r : Registers) (ps : List Pointer) (row depth : ℕ) → low ≤ n → n < limit → row < 8 → depth ≤ 8 → (c : Answer Changes) → Room low limit (restAfter r ps n row depth c)
+after-room low limit n r ps row depth l h i j (refuse f) = tt
+after-room low limit n r ps row depth l h i j (ok c) = (i, (j, (omega arith, omega arith)))
+
+module _ (lengths rights bases gatedomains stacks words : List ℕ) (depth : ℕ) (frame : Frame) (r : Registers) (ps : List Pointer) (low limit n : ℕ) (most : depth ≤ 8) where
+  pub rest-room : (e : Event) → Fine depth low limit n e → Room low limit (restOf lengths rights bases gatedomains stacks words depth frame r ps n e)
+  rest-room event.Moved f = tt
+  rest-room (event.Pointed i p) f = tt
+  rest-room event.Halted f = tt
+  rest-room (event.Faulted k) f = tt
+  rest-room (event.Entering p) f =
+      after-room low limit n r ps depth (depth + 1) (f .1 .0) (f .0) (f .1 .1) (omega (arith, f .1 .1))
+      (enterParts gatedomains stacks r ps p (frameOf (readOf lengths rights bases words (r .domain) depth frame) (getD ps 0 noPointer) (getD ps 1 noPointer) (r .domain) depth frame))
+  rest-room (event.Leaving p) f =
+      after-room low limit n r ps (depth - 1) (depth - 1) (f .1) (f .0) (omega arith) (omega arith)
+      (leaveParts stacks r ps p frame (leaveCheck lengths rights depth frame (getD ps 1 noPointer) p))

@@ -1,0 +1,5 @@
+pub mod Free
+pub mod Bounds
+pub mod Turning
+pub mod Loops
+pub mod Judging

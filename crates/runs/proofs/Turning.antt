@@ -1,0 +1,175 @@
+-- A run as turns: moves, then an ending or a crossing to go on from.
+use Prim.Native.Nat.{ℕ, zero, suc, _+_, _-_, _<_, _≤_}
+use native.Mathlib.Omega.{arith}
+use mathlib.Core.Bool.{Bool, true, false}
+use mathlib.Core.List.{List}
+use mathlib.Core.Path.{_≡_, refl, sym, ap, _∙_}
+use borrow.Author.Tests.{le-leb}
+use lib.Dec.{eqb, leb}
+use lib.ListN.{length, getD, set}
+use Rattle.words.specs.Answer.{Answer, refuse, ok, _>>=_, if_then_else_}
+use Rattle.words.specs.declared.pointer.Pointer.{Pointer}
+use Rattle.state.specs.declared.record.Frame.{Frame}
+use Rattle.state.specs.declared.record.Registers.{Registers}
+use Rattle.state.specs.declared.record.Machine.{Machine}
+use Rattle.state.specs.Record.{noPointer, inUse, liveFrame}
+use Rattle.state.specs.Bases.{basesOf}
+use Rattle.machine.specs.declared.flag.Access.the-variants as access
+use Rattle.machine.specs.Reference.{verdictOf, accept, indexOf, referenceOf}
+use Rattle.machine.specs.Machine.{check}
+use Rattle.instructions.specs.declared.turn.Event.{Event}
+use Rattle.instructions.specs.declared.turn.Event.the-variants as event
+use Rattle.memory.specs.Reader.{readOf, fetchOf, readWord, fetch, stored, writtenOf}
+use Rattle.instructions.specs.Plan.{Plan, halt, move, store, enter, leave}
+use Rattle.instructions.specs.Instruction.{planOf}
+use Rattle.instructions.specs.Turn.{Turned, ended, moved, entering, leaving, registersAt, settled, settledWords, planned, turnOf, turnWords}
+use Rattle.memory.proofs.Answers.{accept-then}
+use Rattle.arguments.specs.ArgumentList.{frameOf}
+use Rattle.crossings.specs.Crossing.{Changes, entered, left, enterOf, leaveOf, leaveCheck, enterParts, leaveParts}
+use Rattle.runs.specs.Step.{Act, cross, Done, done, resolve, decide, commit, execute}
+use Rattle.runs.specs.Step.{moved as moving}
+use Rattle.runs.specs.Run.{Ran, ran, Ending, halted, spent, crossed, faulted, after, runFrom}
+use Rattle.moves.specs.Moves.{Paused, paused, onward, movesFrom}
+use Rattle.runs.specs.Rest.{Rest, ends, goes, restAfter, restOf}
+
+-- a machine with other registers and pointers
+abbrev pub withParts : Machine → Registers → List Pointer → Machine
+withParts m r pointers = record { layout = m .layout; registers = r; pointers = pointers; frames = m .frames; depth = m .depth }
+
+-- a machine after a crossing
+abbrev pub crossedTo : Machine → ℕ → ℕ → Changes → Machine
+crossedTo m row depth c = record { layout = m .layout; registers = c .registers; pointers = c .pointers; frames = set (m .frames) row (c .frame); depth = depth }
+
+-- the run that goes on from a rest
+abbrev pub continued : Bool → ℕ → Machine → List ℕ → Rest → Ran
+continued stretch limit m words (ends r pointers n e) = ran (withParts m r pointers) words n e
+continued stretch limit m words (goes n row depth c) =
+    if stretch then ran (crossedTo m row depth c) words n crossed else runFrom stretch (limit - n) n (crossedTo m row depth c) words
+
+-- the rest of a machine's run, at an event
+abbrev pub restAt : Machine → List ℕ → ℕ → Event → Rest
+restAt m words n e =
+    restOf (m .layout .lengths) (m .layout .rights) (basesOf (m .layout .lengths)) (m .layout .gatedomains) (m .layout .stacks) words (m .depth) (liveFrame (m .depth) (m .frames)) (m .registers) (m .pointers) n e
+
+-- a machine's moves
+abbrev pub movesAt : Machine → ℕ → ℕ → List ℕ → Paused
+movesAt m k n words =
+    movesFrom (m .layout .lengths) (m .layout .gates) (m .layout .rights) (m .layout .stacks) (basesOf (m .layout .lengths)) (m .depth) (liveFrame (m .depth) (m .frames)) k n (m .registers) (m .pointers) words
+
+-- a run after its moves
+abbrev pub restOfMoves : Bool → ℕ → Machine → Paused → Ran
+restOfMoves stretch limit m p =
+    let n = withParts m (p .pause .registers) (p .pause .pointers) in continued stretch limit n (p .words) (restAt n (p .words) (p .pause .count) (p .pause .event))
+
+module _ (stretch : Bool) (limit k n : ℕ) (count : limit - (n + 1) ≡ k) (m : Machine) (words : List ℕ) where
+  -- a crossing that was answered
+  answered : (row depth : ℕ) (x : Answer Machine) (c : Answer Changes) → x ≡ (c >>= (λ d. ok (crossedTo m row depth d)))
+      → after stretch (runFrom stretch k (n + 1)) n m words (x >>= (λ d. ok (cross d)) >>= commit m words) ≡ continued stretch limit m words (restAfter (m .registers) (m .pointers) n row depth c)
+  unfolding commit
+  answered row depth x (refuse f) e = rw e refl
+  answered row depth x (ok c) e = rw (e, count) refl
+
+  entered-goes : (p : Pointer) (made : Answer Frame) →
+      (made >>= (λ f. ok (entered m p f))) ≡ (enterParts (m .layout .gatedomains) (m .layout .stacks) (m .registers) (m .pointers) p made >>= (λ d. ok (crossedTo m (m .depth) (m .depth + 1) d)))
+  unfolding entered
+  entered-goes p (refuse f) = refl
+  entered-goes p (ok f) = refl
+
+  left-goes : (p : Pointer) (f : Frame) (v : ℕ) →
+      accept v (left m p f) ≡ (leaveParts (m .layout .stacks) (m .registers) (m .pointers) p f v >>= (λ d. ok (crossedTo m (m .depth - 1) (m .depth - 1) d)))
+  unfolding left
+  left-goes p f v = sym (accept-then v _ (left m p f) (λ d. ok (crossedTo m (m .depth - 1) (m .depth - 1) d)) refl)
+
+  -- a call through a gate, and a return, whose answer is known
+  enters : (p : Pointer) (made : Answer Frame) →
+      after stretch (runFrom stretch k (n + 1)) n m words (made >>= (λ f. ok (entered m p f)) >>= (λ d. ok (cross d)) >>= commit m words)
+      ≡ continued stretch limit m words (restAfter (m .registers) (m .pointers) n (m .depth) (m .depth + 1) (enterParts (m .layout .gatedomains) (m .layout .stacks) (m .registers) (m .pointers) p made))
+  enters p made = answered (m .depth) (m .depth + 1) _ (enterParts (m .layout .gatedomains) (m .layout .stacks) (m .registers) (m .pointers) p made) (entered-goes p made)
+
+  leaves : (p : Pointer) (f : Frame) (v : ℕ) →
+      after stretch (runFrom stretch k (n + 1)) n m words (accept v (left m p f) >>= (λ d. ok (cross d)) >>= commit m words)
+      ≡ continued stretch limit m words (restAfter (m .registers) (m .pointers) n (m .depth - 1) (m .depth - 1) (leaveParts (m .layout .stacks) (m .registers) (m .pointers) p f v))
+  leaves p f v = answered (m .depth - 1) (m .depth - 1) _ (leaveParts (m .layout .stacks) (m .registers) (m .pointers) p f v) (left-goes p f v)
+
+  abbrev depth : ℕ
+  depth = m .depth
+
+  abbrev frame : Frame
+  frame = liveFrame (m .depth) (m .frames)
+
+  abbrev bases : List ℕ
+  bases = basesOf (m .layout .lengths)
+
+  -- the run after an instruction that turned out so, the words after it given
+  abbrev pub turned : List ℕ → Answer Turned → Ran
+  turned next (refuse f) = ran m next n (faulted f)
+  turned next (ok ended) = ran m next (n + 1) halted
+  turned next (ok (moved r pointers)) = runFrom stretch k (n + 1) (withParts m r pointers) next
+  turned next (ok (entering p)) = continued stretch limit m next (restAt m next n (event.Entering p))
+  turned next (ok (leaving p)) = continued stretch limit m next (restAt m next n (event.Leaving p))
+
+  -- a store, by the number of its check
+  stores : (v i a : ℕ) (next : Machine) →
+      after stretch (runFrom stretch k (n + 1)) n m words (accept v i >>= (λ j. ok (done next (set words j a) moving)))
+      ≡ after stretch (runFrom stretch k (n + 1)) n m (stored words a (accept v i)) (accept v (done next (stored words a (accept v i)) moving))
+  stores v i a next = by (eqb v 0)
+    where
+      by : (t : Bool) →
+          after stretch (runFrom stretch k (n + 1)) n m words ((if t then ok i else refuse v) >>= (λ j. ok (done next (set words j a) moving)))
+          ≡ after stretch (runFrom stretch k (n + 1)) n m (stored words a (if t then ok i else refuse v)) (if t then ok (done next (stored words a (if t then ok i else refuse v)) moving) else refuse v)
+      by true = refl
+      by false = refl
+
+  accepted-turn : (v : ℕ) (r : Registers) (pointers : List Pointer) (next : List ℕ) →
+      after stretch (runFrom stretch k (n + 1)) n m next (accept v (done (withParts m r pointers) next moving)) ≡ turned next (accept v (moved r pointers))
+  accepted-turn v r pointers next = by (eqb v 0)
+    where
+      by : (t : Bool) →
+          after stretch (runFrom stretch k (n + 1)) n m next (if t then ok (done (withParts m r pointers) next moving) else refuse v) ≡ turned next (if t then ok (moved r pointers) else refuse v)
+      by true = refl
+      by false = refl
+
+  -- an instruction whose plan is known
+  by-plan : inUse (m .depth) ≡ m .depth → (plan : Answer Plan) →
+      after stretch (runFrom stretch k (n + 1)) n m words (plan >>= resolve m (readWord m words) >>= commit m words)
+      ≡ turned (settledWords (m .layout .lengths) (m .layout .rights) bases words depth frame (m .registers) (m .pointers) plan) (plan >>= settled (m .layout .lengths) (m .layout .rights) bases words depth frame (m .registers) (m .pointers))
+  unfolding commit check writtenOf referenceOf enterOf leaveOf readWord
+  by-plan u (refuse f) = refl
+  by-plan u (ok halt) = refl
+  by-plan u (ok (move a s w ps)) = refl
+  by-plan u (ok (store p v)) =
+      rw u (rw u at (stores (verdictOf (m .layout .lengths) (m .layout .rights) (m .registers .domain) (inUse (m .depth)) frame access.Write p) (indexOf bases (p .segment) (p .word)) v (withParts m (registersAt (m .registers) (m .registers .a) (m .registers .segment) (m .registers .word + 1)) (m .pointers))
+      ∙ accepted-turn (verdictOf (m .layout .lengths) (m .layout .rights) (m .registers .domain) (inUse (m .depth)) frame access.Write p) (registersAt (m .registers) (m .registers .a) (m .registers .segment) (m .registers .word + 1)) (m .pointers) _))
+  by-plan u (ok (enter p)) =
+      rw u (rw u at (enters p (frameOf (readOf (m .layout .lengths) (m .layout .rights) bases words (m .registers .domain) (inUse (m .depth)) frame) (getD (m .pointers) 0 noPointer) (getD (m .pointers) 1 noPointer) (m .registers .domain) (inUse (m .depth)) frame)))
+  by-plan u (ok (leave p)) =
+      rw u (rw u at (leaves p frame (leaveCheck (m .layout .lengths) (m .layout .rights) (inUse (m .depth)) frame (getD (m .pointers) 1 noPointer) p)))
+
+  abbrev turnAt : Answer Turned
+  turnAt = turnOf (m .layout .lengths) (m .layout .gates) (m .layout .rights) (m .layout .stacks) bases words depth frame (m .registers) (m .pointers)
+
+  abbrev wordsAt : List ℕ
+  wordsAt = turnWords (m .layout .lengths) (m .layout .gates) (m .layout .rights) (m .layout .stacks) bases words depth frame (m .registers) (m .pointers)
+
+  -- a run of at least one instruction, as its turn tells
+  pub run-turned : inUse (m .depth) ≡ m .depth → runFrom stretch (suc k) n m words ≡ turned wordsAt turnAt
+  unfolding runFrom execute decide fetch readWord turnOf turnWords
+  run-turned u = by-plan u (planOf (m .layout .lengths) (m .layout .gates) (m .layout .rights) (m .layout .stacks) (m .depth) (m .registers) (m .pointers) (fetch m words) (readWord m words)) ∙ rw u refl
+
+module _ (stretch : Bool) (limit : ℕ) where
+  -- a run is its moves and then its rest
+  pub run-moves : (k n : ℕ) → n + k ≡ limit → (m : Machine) → inUse (m .depth) ≡ m .depth → (words : List ℕ) → runFrom stretch k n m words ≡ restOfMoves stretch limit m (movesAt m k n words)
+  unfolding runFrom movesFrom
+  run-moves zero n e m u words = refl
+  run-moves (suc k) n e m u words =
+      run-turned stretch limit k n (omega arith) m words u
+      ∙ by (run-moves k (n + 1) (omega arith)) (turnAt stretch limit k n (omega arith) m words) (wordsAt stretch limit k n (omega arith) m words)
+    where
+      by : ((m : Machine) → inUse (m .depth) ≡ m .depth → (words : List ℕ) → runFrom stretch k (n + 1) m words ≡ restOfMoves stretch limit m (movesAt m k (n + 1) words))
+          → (t : Answer Turned) (next : List ℕ) → turned stretch limit k n (omega arith) m words next t
+          ≡ restOfMoves stretch limit m (onward (λ r pointers v. movesAt (withParts m r pointers) k (n + 1) v) n (m .registers) (m .pointers) next t)
+      by more (refuse f) next = refl
+      by more (ok ended) next = refl
+      by more (ok (moved r pointers)) next = more (withParts m r pointers) u next
+      by more (ok (entering p)) next = refl
+      by more (ok (leaving p)) next = refl

@@ -1,0 +1,143 @@
+-- `runs::running::run_on` meets its contract. The invariant: the run that the definition gives has come to the record that the locals hold, and its words.
+use Prim.Native.Nat.{ℕ, _+_, _-_, _<_, _≤_}
+use native.Mathlib.Omega.{arith}
+use mathlib.Core.List.{List, [], _∷_}
+use mathlib.Core.Logic.{⊎-elim}
+use mathlib.Core.Path.{_≡_, refl, sym, ap, _∙_}
+use borrow.Author.Needs.{needs}
+use lib.ListN.{length, getD}
+use types.Run.{OneOf}
+use Rattle.state.specs.declared.record.Machine.{Machine}
+use Rattle.state.specs.Bases.{basesOf}
+use Rattle.state.specs.Record.{liveFrame, noFrame}
+use Rattle.runs.specs.declared.outcome.Outcome.{Outcome}
+use Rattle.runs.specs.declared.outcome.End.the-variants as end
+use Rattle.runs.specs.Run.{Ran, ran, runFrom}
+use Rattle.runs.specs.Rest.{ranAnswer, endAnswer}
+use Rattle.runs.proofs.Loops.{Runs, starts, Pauses, pauses, countable, ends-so, crossed-so, bounds, goes-on}
+use Rattle.runs.proofs.running.run_on.Statement.{statement}
+use Rattle.runs.proofs.running.run_on.Tie as tie
+
+abbrev Inv-loop : tie.InvT-loop
+Inv-loop words₀ limit stretch layout places registers₀ pointers₀ frames₀ depth₀ n₀ words registers pointers frames depth n =
+    Runs stretch limit
+    (record { layout = layout; registers = registers₀; pointers = pointers₀; frames = frames₀; depth = depth₀ })
+    words₀
+    (record { layout = layout; registers = registers; pointers = pointers; frames = frames; depth = depth })
+    words
+    n
+
+abbrev μ-loop : tie.MeasureT-loop
+μ-loop words₀ limit stretch layout places registers₀ pointers₀ frames₀ depth₀ n₀ words registers pointers frames depth n = limit - n
+
+-- the default arm is not that of Crossed
+another : OneOf (0 ∷ 1 ∷ 2 ∷ 4 ∷ []) 3 → ⊥
+another k = ⊎-elim (λ e. omega (arith, e)) (⊎-elim (λ e. omega (arith, e)) (⊎-elim (λ e. omega (arith, e)) (λ e. omega (arith, e)))) k
+
+bases-requires : tie.Need-bases-requires Inv-loop μ-loop
+bases-requires c κs = search needs
+
+loop-holds : tie.Need-loop-holds Inv-loop μ-loop
+loop-holds c = starts (c .before .before .before .before .before .before .before .before .args .stretch) _ _ _ (c .before .before .before .before .before .before .before .before .pre)
+
+live-row-requires : tie.Need-live-row-requires Inv-loop μ-loop
+live-row-requires c κs = search needs
+
+mul-frame : tie.Need-mul-frame Inv-loop μ-loop
+mul-frame c = omega (arith, c .live-row .ensures .1)
+
+array-copy-out-frame : tie.Need-array-copy-out-frame Inv-loop μ-loop
+array-copy-out-frame c = c .live-row .ensures .1
+
+-- the frame that is read is the live one
+live : (c : tie.After-live-row Inv-loop μ-loop) →
+    let l = c .before .loop in getD (l .frames) (c .live-row .result) noFrame ≡ liveFrame (l .depth) (l .frames)
+live c = ap (λ (k : ℕ). getD (c .before .loop .frames) k noFrame) (c .live-row .ensures .0)
+
+make-moves-requires : tie.Need-make-moves-requires Inv-loop μ-loop
+make-moves-requires c κs = search needs
+
+-- the record that the locals hold where a turn of the loop begins
+abbrev at : tie.At-loop Inv-loop μ-loop → Machine
+at l = record { layout = l .before .before .before .before .before .before .before .before .before .args .m .layout; registers = l .loop .registers; pointers = l .loop .pointers; frames = l .loop .frames; depth = l .loop .depth }
+
+rest-requires : tie.Need-rest-requires Inv-loop μ-loop
+rest-requires c κs =
+    let m = c .before .before .before .before .before .before .before .before .before .before .before in
+    let l = m .before .before .before .before .before .before .before .before .before .before in
+    (countable _ _ _ _ (at (m .before .before .before .before .before .before .before .before .before .before)) _ _ (m .before .before .before .before .before .before .before .before .before .before .loop .inv) _ (m .before .before .before .before .before .before .before .before .before .before .before .before .before .before .bases .ensures) _ (live (m .before .before .before .before .before .before .before .before .before)) _ _ (m .make-moves .ensures .0) (m .make-moves .ensures .1) (omega (arith, l .before .before .before .before .before .before .before .before .before .fits .limit)), l .loop .inv .most)
+
+enum-told : tie.Need-enum-told Inv-loop μ-loop
+enum-told c = c .match .keys1
+
+-- a crossing has a row for its frame, and has counted
+crossing : (c : tie.After-enum-told Inv-loop μ-loop) →
+    let r = c .before .before .before .before in
+    (r .rest .result .row < 8) × ((r .rest .result .depth ≤ 8) × ((r .before .before .before .before .before .before .before .before .before .before .before .before .before .before .before .before .before .before .before .before .before .before .loop .n < r .rest .result .count) × (r .rest .result .count ≤ r .before .before .before .before .before .before .before .before .before .before .before .before .before .before .before .before .before .before .before .before .before .before .before .before .before .before .before .before .before .before .before .args .limit)))
+crossing c = let r = c .before .before .before .before in let m = r .before .before .before .before .before .before .before .before .before .before .before .before in bounds _ _ _ _ (at (m .before .before .before .before .before .before .before .before .before .before)) _ _ (m .before .before .before .before .before .before .before .before .before .before .loop .inv) _ (m .before .before .before .before .before .before .before .before .before .before .before .before .before .before .bases .ensures) _ (live (m .before .before .before .before .before .before .before .before .before)) _ _ (m .make-moves .ensures .0) (m .make-moves .ensures .1) _ (r .rest .ensures) (c .enum-told .given .1)
+
+cast-row : tie.Need-cast-row Inv-loop μ-loop
+cast-row c = omega (arith, crossing (c .before .before) .0)
+
+mul-frames : tie.Need-mul-frames Inv-loop μ-loop
+mul-frames c = omega (arith, crossing (c .before .before) .0)
+
+array-set-from-frames : tie.Need-array-set-from-frames Inv-loop μ-loop
+array-set-from-frames c = crossing (c .before .before) .0
+
+outcome-requires : tie.Need-outcome-requires Inv-loop μ-loop
+outcome-requires c κs = tt
+
+same-length : tie.Need-same-length Inv-loop μ-loop
+same-length c = let m = c .before .before .before .before .before .before .before .before .before .before .before .before .before .before .before .before .before .before .before .before in pauses _ _ _ _ (at (m .before .before .before .before .before .before .before .before .before .before)) _ _ (m .before .before .before .before .before .before .before .before .before .before .loop .inv) _ (m .before .before .before .before .before .before .before .before .before .before .before .before .before .before .bases .ensures) _ (live (m .before .before .before .before .before .before .before .before .before)) _ _ (m .make-moves .ensures .0) (m .make-moves .ensures .1) .same
+
+returns : tie.Need-returns Inv-loop μ-loop
+returns c =
+    let r = c .before .before .before .before .before .before .before .before in
+    let m = r .before .before .before .before .before .before .before .before .before .before .before .before in
+    ap (λ (o : Outcome). ranAnswer o (m .make-moves .last .1 .1 .1 .1 .1 .0)) (c .outcome .ensures) ∙ sym (crossed-so _ _ _ _ (at (m .before .before .before .before .before .before .before .before .before .before)) _ _ (m .before .before .before .before .before .before .before .before .before .before .loop .inv) _ (m .before .before .before .before .before .before .before .before .before .before .before .before .before .before .bases .ensures) _ (live (m .before .before .before .before .before .before .before .before .before)) _ _ (m .make-moves .ensures .0) (m .make-moves .ensures .1) _ (r .rest .ensures) (c .before .before .before .before .enum-told .given .1) (c .before .if1 .taken))
+
+loop-less : tie.Need-loop-less Inv-loop μ-loop
+loop-less c = omega (arith, crossing (c .before .before .before) .1 .1 .0, crossing (c .before .before .before) .1 .1 .1)
+
+loop-again : tie.Need-loop-again Inv-loop μ-loop
+loop-again c = let r = c .before .before .before .before .before .before .before in let m = r .before .before .before .before .before .before .before .before .before .before .before .before in goes-on _ _ _ _ (at (m .before .before .before .before .before .before .before .before .before .before)) _ _ (m .before .before .before .before .before .before .before .before .before .before .loop .inv) _ (m .before .before .before .before .before .before .before .before .before .before .before .before .before .before .bases .ensures) _ (live (m .before .before .before .before .before .before .before .before .before)) _ _ (m .make-moves .ensures .0) (m .make-moves .ensures .1) _ (r .rest .ensures) (c .before .before .before .enum-told .given .1) (c .if1 .left)
+
+outcome-requires-2 : tie.Need-outcome-requires-2 Inv-loop μ-loop
+outcome-requires-2 c κs = tt
+
+same-length-2 : tie.Need-same-length-2 Inv-loop μ-loop
+same-length-2 c = let m = c .before .before .before .before .before .before .before .before .before .before .before .before .before .before .before .before in pauses _ _ _ _ (at (m .before .before .before .before .before .before .before .before .before .before)) _ _ (m .before .before .before .before .before .before .before .before .before .before .loop .inv) _ (m .before .before .before .before .before .before .before .before .before .before .before .before .before .before .bases .ensures) _ (live (m .before .before .before .before .before .before .before .before .before)) _ _ (m .make-moves .ensures .0) (m .make-moves .ensures .1) .same
+
+returns-2 : tie.Need-returns-2 Inv-loop μ-loop
+returns-2 c =
+    let r = c .before .before .before .before in
+    let m = r .before .before .before .before .before .before .before .before .before .before .before .before in
+    ap (λ (o : Outcome). ranAnswer o (m .make-moves .last .1 .1 .1 .1 .1 .0)) (c .outcome2 .ensures)
+    ∙ sym (ends-so _ _ _ _ (at (m .before .before .before .before .before .before .before .before .before .before)) _ _ (m .before .before .before .before .before .before .before .before .before .before .loop .inv) _ (m .before .before .before .before .before .before .before .before .before .before .before .before .before .before .bases .ensures) _ (live (m .before .before .before .before .before .before .before .before .before)) _ _ (m .make-moves .ensures .0) (m .make-moves .ensures .1) (r .rest .result) (r .rest .ensures) (λ e. another (rw e at (c .before .match .keys2))))
+
+pub run-on-spec : {M : Type 1} → statement M
+run-on-spec =
+    tie.close
+    (tie.spec
+    Inv-loop
+    μ-loop
+    bases-requires
+    loop-holds
+    live-row-requires
+    mul-frame
+    array-copy-out-frame
+    make-moves-requires
+    rest-requires
+    enum-told
+    cast-row
+    mul-frames
+    array-set-from-frames
+    outcome-requires
+    same-length
+    returns
+    loop-less
+    loop-again
+    outcome-requires-2
+    same-length-2
+    returns-2)

@@ -1,0 +1,75 @@
+-- One instruction: decide from the record and what is read, then commit.
+use Prim.Native.Nat.{ℕ, _+_}
+use mathlib.Core.Bool.{Bool, true, false}
+use mathlib.Core.List.{List}
+use lib.ListN.{set}
+use Rattle.words.specs.Answer.{Answer, refuse, ok, _>>=_}
+use Rattle.words.specs.declared.pointer.Pointer.{Pointer}
+use Rattle.state.specs.declared.record.Registers.{Registers}
+use Rattle.state.specs.declared.record.Machine.{Machine}
+use Rattle.machine.specs.declared.flag.Access.the-variants as access
+use Rattle.machine.specs.Machine.{check}
+use Rattle.memory.specs.Reader.{Reader, readWord, fetch}
+use Rattle.instructions.specs.Plan.{Plan, halt, move, store, enter, leave}
+use Rattle.instructions.specs.Instruction.{planOf}
+use Rattle.crossings.specs.Crossing.{enterOf, leaveOf}
+
+-- what an instruction does: the only answer that changes layout, executing domain or frames is a crossing
+pub data Act : Type 0 where
+  stop : Act
+  proceed : ℕ → ℕ → ℕ → List Pointer → Act
+  put : Pointer → ℕ → Act
+  cross : Machine → Act
+
+-- what a completed instruction was
+pub data Event : Type 0 where
+  stopped moved crossing : Event
+
+abbrev pub isStop : Event → Bool
+isStop stopped = true
+isStop moved = false
+isStop crossing = false
+
+-- the record with this A, at this segment and word, with these pointers
+abbrev pub movedTo : Machine → ℕ → ℕ → ℕ → List Pointer → Machine
+movedTo m a segment word pointers =
+    record {
+      layout = m .layout;
+      registers = record { a = a; word = word; segment = segment; domain = m .registers .domain };
+      pointers = pointers;
+      frames = m .frames;
+      depth = m .depth;
+    }
+
+pub record Done : Type 0 where
+  pub machine : Machine
+  pub words : List ℕ
+  pub event : Event
+
+abbrev pub done : Machine → List ℕ → Event → Done
+done m words e = record { machine = m; words = words; event = e }
+
+-- a plan with its crossing made
+abbrev pub resolve : Machine → Reader → Plan → Answer Act
+resolve m read halt = ok stop
+resolve m read (move a segment word pointers) = ok (proceed a segment word pointers)
+resolve m read (store p v) = ok (put p v)
+resolve m read (enter p) = enterOf m read p >>= (λ n. ok (cross n))
+resolve m read (leave p) = leaveOf m p >>= (λ n. ok (cross n))
+
+-- what the instruction at the location does; it sees the memory only through what it fetches and reads
+unfoldable pub decide : Machine → Answer ℕ → Reader → Answer Act
+decide m fetched read =
+    planOf (m .layout .lengths) (m .layout .gates) (m .layout .rights) (m .layout .stacks) (m .depth) (m .registers) (m .pointers) fetched read >>= resolve m read
+
+-- the only definition that changes words: the W check of the target is the last check of a storing instruction
+unfoldable pub commit : Machine → List ℕ → Act → Answer Done
+commit m words stop = ok (done m words stopped)
+commit m words (proceed a segment word pointers) = ok (done (movedTo m a segment word pointers) words moved)
+commit m words (put p v) =
+    check m access.Write p >>= (λ i. ok (done (movedTo m (m .registers .a) (m .registers .segment) (m .registers .word + 1) (m .pointers)) (set words i v) moved))
+commit m words (cross n) = ok (done n words crossing)
+
+-- one instruction of a sound machine
+unfoldable pub execute : Machine → List ℕ → Answer Done
+execute m words = decide m (fetch m words) (readWord m words) >>= commit m words

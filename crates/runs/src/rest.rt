@@ -1,0 +1,135 @@
+// What a run comes to after its moves: it ends, or it goes on from a crossing.
+ghost use mathlib.Core.Path.{_≡_};
+ghost use Prim.Native.Nat.{_<_, _≤_, _-_};
+ghost use Rattle.crossings.specs.Crossing.{crossedAnswer};
+ghost use Rattle.runs.specs.Rest.{endAnswer, ends, restAnswer, restAfter, restOf, Countable};
+use crate::outcome::End;
+use crossings::crossing::Crossed;
+use crossings::crossing::enter;
+use crossings::crossing::leave;
+use instructions::turn::Event;
+use state::record::Frame;
+use state::record::Registers;
+use words::pointer::Pointer;
+
+// Where the end is Crossed: the frame's row, and the frames in use after it. Else only registers, pointers and count tell something.
+pub struct Crossing {
+    pub frame: Frame,
+    pub pointers: [Pointer; 8],
+    pub registers: Registers,
+    pub count: u16,
+    pub row: u8,
+    pub depth: u8,
+    pub end: End,
+}
+
+// One frame less; none of none.
+fn below(depth: u8) -> u8
+    ensures { λ d. ⌜ d ≡ depth - 1 ⌝ }
+{
+    if depth == 0 {
+        return 0;
+    }
+    depth - 1
+}
+
+// An ending that is no crossing.
+fn stop(frame: Frame, r: Registers, pointers: [Pointer; 8], n: u16, depth: u8, end: End) -> Crossing
+    ensures { λ x. ⌜ x ≡ record { frame = frame; pointers = pointers; registers = r; count = n; row = depth; depth = depth; end = end } ⌝ }
+{
+    Crossing {
+        frame,
+        pointers,
+        registers: r,
+        count: n,
+        row: depth,
+        depth,
+        end,
+    }
+}
+
+// A crossing that was made or refused after n instructions.
+fn crossed_rest(
+    c: Crossed,
+    r: Registers,
+    pointers: [Pointer; 8],
+    n: u16,
+    row: u8,
+    depth: u8,
+) -> Crossing
+    requires { ⌜ n < 65535 ⌝ }
+    ensures { λ x. ⌜ restAnswer x ≡ restAfter r pointers n row depth (crossedAnswer c) ⌝ }
+{
+    let frame = c.frame;
+    if c.refused {
+        return Crossing {
+            frame,
+            pointers,
+            registers: r,
+            count: n,
+            row,
+            depth,
+            end: End::Faulted(c.number),
+        };
+    }
+    let changed = c.pointers;
+    let registers = c.registers;
+    let next = n + 1;
+    Crossing {
+        frame,
+        pointers: changed,
+        registers,
+        count: next,
+        row,
+        depth,
+        end: End::Crossed,
+    }
+}
+
+// The rest after n instructions and moves that pause at an event.
+pub fn rest<'a>(
+    lengths: &'a [u16; 16],
+    rights: &'a [u8; 128],
+    bases: &'a [u32; 16],
+    gatedomains: &'a [u8; 16],
+    stacks: &'a [u8; 8],
+    words: &[u32],
+    depth: u8,
+    frame: Frame,
+    r: Registers,
+    pointers: [Pointer; 8],
+    n: u16,
+    event: Event,
+) -> Crossing
+    requires { ⌜ Countable n event ⌝ }
+    requires { ⌜ depth ≤ 8 ⌝ }
+    ensures { λ c. ⌜ restAnswer c ≡ restOf (now (lengths .entry)) (now (rights .entry)) (now (bases .entry)) (now (gatedomains .entry)) (now (stacks .entry)) (now (words .entry)) depth frame r pointers n event ⌝ }
+{
+    match event {
+        Event::Entering(p) => {
+            let c = enter(
+                lengths,
+                rights,
+                bases,
+                gatedomains,
+                stacks,
+                words,
+                depth,
+                frame,
+                r,
+                pointers,
+                p,
+            );
+            crossed_rest(c, r, pointers, n, depth, depth + 1)
+        }
+        Event::Leaving(p) => {
+            let c = leave(lengths, rights, stacks, depth, frame, r, pointers, p);
+            let less = below(depth);
+            crossed_rest(c, r, pointers, n, less, less)
+        }
+        Event::Moved => stop(frame, r, pointers, n, depth, End::Spent),
+        Event::Pointed(i, p) => stop(frame, r, pointers, n, depth, End::Spent),
+        Event::Halted => stop(frame, r, pointers, n + 1, depth, End::Halted),
+        Event::Faulted(number) => stop(frame, r, pointers, n, depth, End::Faulted(number)),
+    }
+}

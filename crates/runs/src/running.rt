@@ -1,0 +1,109 @@
+// The loop that runs a machine.
+ghost use mathlib.Core.Path.{_≡_};
+ghost use Prim.Native.Nat.{_≤_};
+ghost use Rattle.runs.specs.Run.{runFrom};
+ghost use Rattle.runs.specs.Rest.{ranAnswer};
+use crate::outcome::End;
+use crate::outcome::Outcome;
+use crate::rest::rest;
+use moves::make_moves;
+use state::bases::bases;
+use state::frames::live_row;
+use state::record::Frame;
+use state::record::Layout;
+use state::record::Machine;
+use state::record::Registers;
+use words::pointer::Pointer;
+
+// The outcome of a run whose record lies in parts.
+fn outcome(
+    layout: Layout,
+    registers: Registers,
+    pointers: [Pointer; 8],
+    frames: [Frame; 8],
+    depth: u8,
+    count: u16,
+    end: End,
+) -> Outcome
+    ensures { λ o. ⌜ o ≡ record { machine = record { layout = layout; registers = registers; pointers = pointers; frames = frames; depth = depth }; count = count; end = end } ⌝ }
+{
+    let machine = Machine {
+        layout,
+        registers,
+        pointers,
+        frames,
+        depth,
+    };
+    Outcome {
+        machine,
+        count,
+        end,
+    }
+}
+
+// At most limit instructions; a stretch ends at its first crossing. The record lies in locals of its own, so that only a crossing copies parts of it.
+pub fn run_on(m: Machine, words: &mut [u32], limit: u16, stretch: bool) -> Outcome
+    requires { ⌜ m .depth ≤ 8 ⌝ }
+    ensures { λ o. ⌜ ranAnswer o (now (words .exit)) ≡ runFrom stretch limit 0 m (now (words .entry)) ⌝ }
+{
+    let layout = m.layout;
+    let places = bases(&layout.lengths);
+    let mut registers = m.registers;
+    let mut pointers = m.pointers;
+    let mut frames = m.frames;
+    let mut depth = m.depth;
+    let mut n = 0u16;
+    loop {
+        let live = live_row(depth);
+        let frame = frames[live];
+        let t = make_moves(
+            &layout.lengths,
+            &layout.gates,
+            &layout.rights,
+            &layout.stacks,
+            &places,
+            words,
+            depth,
+            frame,
+            n,
+            limit,
+            registers,
+            pointers,
+        );
+        let moved = t.registers;
+        let held = t.pointers;
+        let event = t.event;
+        let c = rest(
+            &layout.lengths,
+            &layout.rights,
+            &places,
+            &layout.gatedomains,
+            &layout.stacks,
+            words,
+            depth,
+            frame,
+            moved,
+            held,
+            t.count,
+            event,
+        );
+        registers = c.registers;
+        pointers = c.pointers;
+        n = c.count;
+        let end = c.end;
+        match end {
+            End::Crossed => {
+                let made = c.frame;
+                let row = c.row as usize;
+                frames[row] = made;
+                depth = c.depth;
+                if stretch {
+                    return outcome(layout, registers, pointers, frames, depth, n, End::Crossed);
+                }
+            }
+            other => {
+                return outcome(layout, registers, pointers, frames, depth, n, other);
+            }
+        }
+    }
+}

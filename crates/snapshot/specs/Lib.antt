@@ -1,3 +1,0 @@
-pub mod Tabulate
-pub mod Read
-pub mod Write

@@ -1,0 +1,43 @@
+-- The checks of jumps and calls.
+use Prim.Native.Nat.{ℕ}
+use mathlib.Core.Bool.{Bool, true, false, not}
+use mathlib.Core.List.{List}
+use lib.Dec.{ltb}
+use lib.ListN.{getD}
+use Rattle.words.specs.Answer.{Answer, refuse, ok, _>>_, require, if_then_else_}
+use Rattle.words.specs.Numbers.{noWord, flagMissing, taggedTransfer, notGate, noFreeFrame}
+use Rattle.words.specs.declared.pointer.Pointer.{Pointer}
+use Rattle.machine.specs.declared.flag.Flag.the-variants as flag
+use Rattle.machine.specs.Flag.{has}
+use Rattle.machine.specs.Static.{exists, rightsOf, staticOf}
+use Rattle.transfers.specs.declared.CallAnswer.{CallAnswer}
+use Rattle.transfers.specs.declared.CallAnswer.the-variants as way
+
+-- the gate count and the gate domain of a segment; nothing past the rows
+abbrev pub gatesOf : List ℕ → ℕ → ℕ
+gatesOf gates segment = if ltb segment 16 then getD gates segment 0 else 0
+
+abbrev pub gateDomainOf : List ℕ → ℕ → ℕ
+gateDomainOf gatedomains segment = if ltb segment 16 then getD gatedomains segment 0 else 0
+
+-- a jump's checks, an untagged pointer, then static E: 0, or the number of the fault
+unfoldable pub jumpCheck : List ℕ → List ℕ → ℕ → Pointer → ℕ
+jumpCheck lengths rights domain p = if p .tag then taggedTransfer else staticOf lengths rights domain flag.Execute (p .segment) (p .word)
+
+-- a call's checks: untagged; the word exists; with E it is a call inside the domain; else G, then a gate, then a free frame
+unfoldable pub callWay : List ℕ → List ℕ → List ℕ → ℕ → ℕ → Pointer → Answer Bool
+callWay lengths gates rights domain depth p =
+    require (not (p .tag)) taggedTransfer >>
+    require (exists lengths (p .segment) (p .word)) noWord >>
+    (if has (rightsOf rights domain (p .segment)) flag.Execute then ok true
+    else (
+    require (has (rightsOf rights domain (p .segment)) flag.Gate) flagMissing >>
+    require (ltb (p .word) (gatesOf gates (p .segment))) notGate >>
+    require (ltb depth 8) noFreeFrame >>
+    ok false))
+
+-- what the code's answer stands for: true inside the domain, false through a gate
+abbrev pub callAnswer : CallAnswer → Answer Bool
+callAnswer way.Inside = ok true
+callAnswer way.Gate = ok false
+callAnswer (way.Refused n) = refuse n
