@@ -14,7 +14,7 @@ use Rattle.words.specs.declared.mode.Mode.{Mode}
 use Rattle.state.specs.declared.record.Capability.{Capability}
 use Rattle.state.specs.declared.record.Frame.{Frame}
 use Rattle.state.specs.Record.{noCapability}
-use Rattle.machine.specs.Live.{passedOf}
+use Rattle.references.specs.Live.{passedOf}
 use Rattle.arguments.specs.declared.Rows.{Rows}
 use Rattle.arguments.specs.declared.Framed.{Framed}
 use Rattle.memory.specs.Reader.{Reader}

@@ -8,9 +8,9 @@ use Rattle.words.specs.declared.pointer.Pointer.{Pointer}
 use Rattle.state.specs.declared.record.Machine.{Machine}
 use Rattle.soundness.specs.Sound.{soundTest}
 use Rattle.soundness.proofs.Facts.{sound-facts}
-use Rattle.machine.specs.declared.flag.Access.{Access}
-use Rattle.machine.specs.Machine.{check}
-use Rattle.machine.proofs.Places.{check-lt}
+use Rattle.references.specs.declared.flag.Access.{Access}
+use Rattle.references.specs.Check.{check}
+use Rattle.references.proofs.Places.{check-lt}
 use Rattle.checks.specs.Judged.{judgedCheck}
 
 -- its index is below 8,192

@@ -5,9 +5,9 @@ use Rattle.words.specs.Numbers.{notSound}
 use Rattle.words.specs.declared.pointer.Pointer.{Pointer}
 use Rattle.state.specs.declared.record.Machine.{Machine}
 use Rattle.soundness.specs.Sound.{soundTest}
-use Rattle.machine.specs.declared.flag.Flag.{Flag}
-use Rattle.machine.specs.declared.flag.Access.{Access}
-use Rattle.machine.specs.Machine.{staticCheck, check}
+use Rattle.references.specs.declared.flag.Flag.{Flag}
+use Rattle.references.specs.declared.flag.Access.{Access}
+use Rattle.references.specs.Check.{staticCheck, check}
 
 -- the static check of a domain
 unfoldable pub judgedStatic : Machine → ℕ → Flag → ℕ → ℕ → Answer ℕ

@@ -1,10 +1,10 @@
 // The check of a reference by the executing domain, on a whole record.
 ghost use mathlib.Core.Path.{_≡_};
-ghost use Rattle.machine.specs.Reference.{indexAnswer};
+ghost use Rattle.references.specs.Reference.{indexAnswer};
 ghost use Rattle.checks.specs.Judged.{judgedCheck};
-use machine::flag::Access;
-use machine::reference::IndexAnswer;
-use machine::reference::reference;
+use references::flag::Access;
+use references::reference::IndexAnswer;
+use references::reference::reference;
 use soundness::sound;
 use state::bases::bases;
 use state::frames::in_use;

@@ -1,10 +1,10 @@
 // The static check of a domain, on a whole record.
 ghost use mathlib.Core.Path.{_≡_};
-ghost use Rattle.machine.specs.Reference.{indexAnswer};
+ghost use Rattle.references.specs.Reference.{indexAnswer};
 ghost use Rattle.checks.specs.Judged.{judgedStatic};
-use machine::flag::Flag;
-use machine::reference::IndexAnswer;
-use machine::reference::locate;
+use references::flag::Flag;
+use references::reference::IndexAnswer;
+use references::reference::locate;
 use soundness::sound;
 use state::bases::bases;
 use state::record::Machine;

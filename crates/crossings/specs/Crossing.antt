@@ -11,9 +11,9 @@ use Rattle.state.specs.declared.record.Frame.{Frame}
 use Rattle.state.specs.declared.record.Registers.{Registers}
 use Rattle.state.specs.declared.record.Machine.{Machine}
 use Rattle.state.specs.Record.{noPointer, noCapability, inUse, liveFrame}
-use Rattle.machine.specs.declared.flag.Flag.the-variants as flag
-use Rattle.machine.specs.Static.{staticOf}
-use Rattle.machine.specs.Reference.{accept}
+use Rattle.references.specs.declared.flag.Flag.the-variants as flag
+use Rattle.references.specs.Static.{staticOf}
+use Rattle.references.specs.Reference.{accept}
 use Rattle.memory.specs.Reader.{Reader}
 use Rattle.pointers.specs.Stack.{withBase, stackOf}
 use Rattle.transfers.specs.Transfer.{gateDomainOf}

@@ -18,7 +18,7 @@ use Rattle.state.specs.declared.record.Frame.{Frame}
 use Rattle.state.specs.Record.{noCapability}
 use Rattle.soundness.proofs.Facts.{PointerSound, CapabilitySound}
 use Rattle.capabilities.specs.Search.{firstOf, coversOf}
-use Rattle.machine.specs.Live.{liveMatch, passedOf}
+use Rattle.references.specs.Live.{liveMatch, passedOf}
 use Rattle.arguments.specs.ArgumentList.{sourceOf, capabilityOf}
 use Rattle.executions.proofs.Says.{Says, says-bind, says-if}
 

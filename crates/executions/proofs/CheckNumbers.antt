@@ -18,16 +18,16 @@ use Rattle.state.specs.declared.record.Frame.{Frame}
 use Rattle.state.specs.declared.record.Machine.{Machine}
 use Rattle.state.specs.Record.{inUse}
 use Rattle.state.specs.Bases.{basesOf}
-use Rattle.machine.specs.declared.flag.Flag.{Flag}
-use Rattle.machine.specs.declared.flag.Flag.the-variants as flag
-use Rattle.machine.specs.declared.flag.Access.{Access}
-use Rattle.machine.specs.declared.flag.Access.the-variants as access
-use Rattle.machine.specs.Flag.{has, flagOf, isRead}
-use Rattle.machine.specs.Static.{exists, rightsOf, staticOf}
+use Rattle.references.specs.declared.flag.Flag.{Flag}
+use Rattle.references.specs.declared.flag.Flag.the-variants as flag
+use Rattle.references.specs.declared.flag.Access.{Access}
+use Rattle.references.specs.declared.flag.Access.the-variants as access
+use Rattle.references.specs.Flag.{has, flagOf, isRead}
+use Rattle.references.specs.Static.{exists, rightsOf, staticOf}
 use Rattle.capabilities.specs.Search.{firstOf, coversOf}
-use Rattle.machine.specs.Live.{liveMatch, sourced, liveOf}
-use Rattle.machine.specs.Reference.{accept, indexOf, verdictOf, locateOf, referenceOf}
-use Rattle.machine.specs.Machine.{check}
+use Rattle.references.specs.Live.{liveMatch, sourced, liveOf}
+use Rattle.references.specs.Reference.{accept, indexOf, verdictOf, locateOf, referenceOf}
+use Rattle.references.specs.Check.{check}
 use Rattle.memory.specs.Reader.{readOf, fetchOf, readWord, fetch}
 use Rattle.addressing.specs.Effective.{displacedBy}
 use Rattle.executions.proofs.Parts.{live}

@@ -16,9 +16,9 @@ use Rattle.state.specs.Record.{noPointer, inUse}
 use Rattle.soundness.proofs.Facts.{PointerSound, PointersSound, FrameSound, LayoutSound, Sound}
 use Rattle.soundness.proofs.FreshSound.{zero-frame}
 use Rattle.soundness.proofs.Kept.{pointer-set, frame-pushed, frame-popped}
-use Rattle.machine.specs.declared.flag.Flag.the-variants as flag
-use Rattle.machine.specs.Static.{exists, staticOf}
-use Rattle.machine.proofs.Passes.{both, static-exists}
+use Rattle.references.specs.declared.flag.Flag.the-variants as flag
+use Rattle.references.specs.Static.{exists, staticOf}
+use Rattle.references.proofs.Passes.{both, static-exists}
 use Rattle.memory.specs.Reader.{Reader}
 use Rattle.transfers.specs.Transfer.{gateDomainOf}
 use Rattle.pointers.specs.Stack.{stackOf}

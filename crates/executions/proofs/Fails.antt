@@ -6,7 +6,7 @@ use mathlib.Core.Path.{_≡_, refl, subst}
 use borrow.Author.Tests.{eqb-false}
 use lib.Dec.{eqb}
 use Rattle.words.specs.Answer.{Answer, refuse, ok, _>>=_, _>>_, require, if_then_else_}
-use Rattle.machine.specs.Reference.{accept}
+use Rattle.references.specs.Reference.{accept}
 
 abbrev pub Fault : ℕ → Type 0
 Fault n = (21 ≤ n) × (n ≤ 32)

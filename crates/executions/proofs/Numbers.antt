@@ -11,9 +11,9 @@ use Rattle.words.specs.Answer.{refuse, ok, if_then_else_}
 use Rattle.words.specs.declared.pointer.Pointer.{Pointer}
 use Rattle.state.specs.declared.record.Machine.{Machine}
 use Rattle.state.specs.Record.{noPointer, inUse}
-use Rattle.machine.specs.declared.flag.Flag.the-variants as flag
-use Rattle.machine.specs.declared.flag.Access.the-variants as access
-use Rattle.machine.specs.Machine.{check}
+use Rattle.references.specs.declared.flag.Flag.the-variants as flag
+use Rattle.references.specs.declared.flag.Access.the-variants as access
+use Rattle.references.specs.Check.{check}
 use Rattle.memory.specs.Reader.{Reader, readWord, fetch}
 use Rattle.instructions.specs.Plan.{Plan, halt, move, store, enter, leave}
 use Rattle.crossings.specs.Crossing.{left, samePlace, leaveCheck, enterOf, leaveOf}

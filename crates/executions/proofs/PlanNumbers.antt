@@ -17,11 +17,11 @@ use Rattle.state.specs.declared.record.Capability.{Capability}
 use Rattle.state.specs.declared.record.Frame.{Frame}
 use Rattle.state.specs.declared.record.Registers.{Registers}
 use Rattle.state.specs.Record.{noPointer, noCapability}
-use Rattle.machine.specs.declared.flag.Flag.the-variants as flag
-use Rattle.machine.specs.Flag.{has}
-use Rattle.machine.specs.Static.{exists, rightsOf, staticOf}
+use Rattle.references.specs.declared.flag.Flag.the-variants as flag
+use Rattle.references.specs.Flag.{has}
+use Rattle.references.specs.Static.{exists, rightsOf, staticOf}
 use Rattle.capabilities.specs.Search.{coversOf}
-use Rattle.machine.specs.Live.{liveMatch, passedOf}
+use Rattle.references.specs.Live.{liveMatch, passedOf}
 use Rattle.memory.specs.Reader.{Reader}
 use Rattle.addressing.specs.Effective.{displacedBy, throughOf, effectiveOf}
 use Rattle.instructions.specs.Plan.{enter, leave}

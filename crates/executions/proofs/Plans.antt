@@ -14,10 +14,10 @@ use Rattle.words.specs.declared.instruction.Instruction.{Instruction}
 use Rattle.state.specs.declared.record.Registers.{Registers}
 use Rattle.soundness.proofs.Facts.{PointerSound, PointersSound}
 use Rattle.soundness.proofs.Kept.{pointer-set}
-use Rattle.machine.specs.declared.flag.Flag.the-variants as flag
-use Rattle.machine.specs.Flag.{has}
-use Rattle.machine.specs.Static.{exists, rightsOf, staticOf}
-use Rattle.machine.proofs.Passes.{static-exists, exists-facts, never}
+use Rattle.references.specs.declared.flag.Flag.the-variants as flag
+use Rattle.references.specs.Flag.{has}
+use Rattle.references.specs.Static.{exists, rightsOf, staticOf}
+use Rattle.references.proofs.Passes.{static-exists, exists-facts, never}
 use Rattle.memory.specs.Reader.{Reader}
 use Rattle.addressing.specs.Effective.{effectiveOf}
 use Rattle.instructions.specs.Plan.{Plan, halt, move, store, enter, leave}

@@ -11,12 +11,12 @@ use Rattle.state.specs.declared.record.Machine.{Machine}
 use Rattle.state.specs.Bases.{basesOf}
 use Rattle.soundness.specs.Sound.{soundTest}
 use Rattle.soundness.proofs.Facts.{Sound, sound-facts, facts-sound}
-use Rattle.machine.specs.declared.flag.Flag.the-variants as flag
-use Rattle.machine.specs.declared.flag.Access.the-variants as access
-use Rattle.machine.specs.Static.{staticOf}
-use Rattle.machine.specs.Reference.{indexOf, accept, locateOf}
-use Rattle.machine.specs.Machine.{check}
-use Rattle.machine.proofs.Passes.{static-exists, exists-facts}
+use Rattle.references.specs.declared.flag.Flag.the-variants as flag
+use Rattle.references.specs.declared.flag.Access.the-variants as access
+use Rattle.references.specs.Static.{staticOf}
+use Rattle.references.specs.Reference.{indexOf, accept, locateOf}
+use Rattle.references.specs.Check.{check}
+use Rattle.references.proofs.Passes.{static-exists, exists-facts}
 use Rattle.memory.specs.Reader.{Reader, readWord, fetch, fetchOf}
 use Rattle.instructions.specs.Plan.{Plan, halt, move, store, enter, leave}
 use Rattle.crossings.specs.Crossing.{enterOf, leaveOf}

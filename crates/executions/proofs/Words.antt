@@ -11,9 +11,9 @@ use Rattle.words.specs.declared.pointer.Pointer.{Pointer}
 use Rattle.state.specs.declared.record.Layout.{Layout}
 use Rattle.state.specs.declared.record.Machine.{Machine}
 use Rattle.state.specs.Bases.{wordsIn}
-use Rattle.machine.specs.declared.flag.Access.the-variants as access
-use Rattle.machine.specs.Machine.{check}
-use Rattle.machine.proofs.Places.{check-lt}
+use Rattle.references.specs.declared.flag.Access.the-variants as access
+use Rattle.references.specs.Check.{check}
+use Rattle.references.proofs.Places.{check-lt}
 use Rattle.memory.specs.Reader.{Reader, readWord, fetch}
 use Rattle.instructions.specs.Plan.{Plan, halt, move, store, enter, leave}
 use Rattle.crossings.specs.Crossing.{enterOf, leaveOf, entered, left}

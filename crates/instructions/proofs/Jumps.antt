@@ -8,7 +8,7 @@ use lib.Dec.{eqb}
 use Rattle.words.specs.Answer.{Answer, ok, if_then_else_}
 use Rattle.words.specs.declared.pointer.Pointer.{Pointer}
 use Rattle.state.specs.declared.record.Registers.{Registers}
-use Rattle.machine.proofs.Passes.{never}
+use Rattle.references.proofs.Passes.{never}
 use Rattle.memory.specs.Reader.{Reader}
 use Rattle.instructions.specs.Plan.{Plan, leave}
 use Rattle.instructions.specs.Instruction.{EPP, JUMP, CALL, RET, isLoad, isStore, takenOf, jumpsOf, jumpOf, returnOf, branchOf, effectOf, next}

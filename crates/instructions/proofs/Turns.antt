@@ -8,7 +8,7 @@ use Rattle.words.specs.Answer.{Answer, refuse, ok, _>>=_, if_then_else_}
 use Rattle.words.specs.declared.pointer.Pointer.{Pointer}
 use Rattle.state.specs.declared.record.Frame.{Frame}
 use Rattle.state.specs.declared.record.Registers.{Registers}
-use Rattle.machine.specs.Reference.{accept}
+use Rattle.references.specs.Reference.{accept}
 use Rattle.memory.specs.Reader.{Reader}
 use Rattle.instructions.specs.Plan.{Plan, move, enter}
 use Rattle.transfers.specs.Transfer.{jumpCheck, callWay}

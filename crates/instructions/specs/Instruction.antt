@@ -13,7 +13,7 @@ use Rattle.words.specs.declared.pointer.Pointer.{Pointer}
 use Rattle.words.specs.declared.instruction.Instruction.{Instruction}
 use Rattle.state.specs.declared.record.Registers.{Registers}
 use Rattle.state.specs.Record.{noPointer}
-use Rattle.machine.specs.Reference.{accept}
+use Rattle.references.specs.Reference.{accept}
 use Rattle.pointers.specs.Stack.{withBase, stackOf}
 use Rattle.transfers.specs.Transfer.{jumpCheck, callWay}
 use Rattle.memory.specs.Reader.{Reader}

@@ -8,8 +8,8 @@ use Rattle.words.specs.Answer.{Answer, refuse, ok, _>>=_, if_then_else_}
 use Rattle.words.specs.declared.pointer.Pointer.{Pointer}
 use Rattle.state.specs.declared.record.Frame.{Frame}
 use Rattle.state.specs.declared.record.Registers.{Registers}
-use Rattle.machine.specs.declared.flag.Access.the-variants as access
-use Rattle.machine.specs.Reference.{verdictOf, accept}
+use Rattle.references.specs.declared.flag.Access.the-variants as access
+use Rattle.references.specs.Reference.{verdictOf, accept}
 use Rattle.instructions.specs.declared.turn.Event.{Event}
 use Rattle.instructions.specs.declared.turn.Event.the-variants as event
 use Rattle.instructions.specs.declared.turn.Turn.{Turn}

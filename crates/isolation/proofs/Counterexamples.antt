@@ -7,8 +7,8 @@ use mathlib.Core.Path.{_≡_, sym, ap, _∙_}
 use lib.ListN.{length, set, length-set}
 use Rattle.state.specs.declared.record.Machine.{Machine}
 use Rattle.state.specs.Bases.{baseOf, basesOf, wordsIn}
-use Rattle.machine.specs.declared.flag.Flag.the-variants as flag
-use Rattle.machine.specs.declared.flag.Access.the-variants as access
+use Rattle.references.specs.declared.flag.Flag.the-variants as flag
+use Rattle.references.specs.declared.flag.Access.the-variants as access
 use Rattle.runs.specs.Run.{Ran}
 use Rattle.processor.specs.Calls.{stretchOf}
 use Rattle.isolation.specs.Visible.{byStatic, byLive, couldWrite, existing, place, wordAt}

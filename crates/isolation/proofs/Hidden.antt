@@ -8,12 +8,12 @@ use lib.ListN.{set}
 use lib.Seq.{getD-set-other}
 use Rattle.state.specs.declared.record.Machine.{Machine}
 use Rattle.state.specs.Record.{inUse, liveFrame}
-use Rattle.machine.specs.declared.flag.Flag.{Flag}
-use Rattle.machine.specs.declared.flag.Flag.the-variants as flag
-use Rattle.machine.specs.declared.flag.Access.{Access}
-use Rattle.machine.specs.declared.flag.Access.the-variants as access
-use Rattle.machine.proofs.Passes.{never, static-exists, live-exists}
-use Rattle.machine.proofs.Places.{index-apart}
+use Rattle.references.specs.declared.flag.Flag.{Flag}
+use Rattle.references.specs.declared.flag.Flag.the-variants as flag
+use Rattle.references.specs.declared.flag.Access.{Access}
+use Rattle.references.specs.declared.flag.Access.the-variants as access
+use Rattle.references.proofs.Passes.{never, static-exists, live-exists}
+use Rattle.references.proofs.Places.{index-apart}
 use Rattle.isolation.specs.Visible.{byStatic, byLive, maySee, existing, place, wordAt}
 use Rattle.isolation.specs.Isolation.{Agree}
 use Rattle.isolation.proofs.Or.{either}

@@ -10,12 +10,12 @@ use Rattle.words.specs.Numbers.{noMatch, noWord, flagMissing}
 use Rattle.state.specs.declared.record.Capability.{Capability}
 use Rattle.state.specs.declared.record.Machine.{Machine}
 use Rattle.state.specs.Record.{noCapability, inUse, liveFrame}
-use Rattle.machine.specs.declared.flag.Flag.the-variants as flag
-use Rattle.machine.specs.declared.flag.Access.the-variants as access
-use Rattle.machine.specs.Flag.{has}
-use Rattle.machine.specs.Static.{exists, rightsOf, staticOf}
+use Rattle.references.specs.declared.flag.Flag.the-variants as flag
+use Rattle.references.specs.declared.flag.Access.the-variants as access
+use Rattle.references.specs.Flag.{has}
+use Rattle.references.specs.Static.{exists, rightsOf, staticOf}
 use Rattle.capabilities.specs.Search.{coversOf, firstOf}
-use Rattle.machine.specs.Live.{liveMatch, sourced, liveOf}
+use Rattle.references.specs.Live.{liveMatch, sourced, liveOf}
 use Rattle.isolation.specs.Visible.{couldWrite}
 
 -- no segment on which the executing domain has W

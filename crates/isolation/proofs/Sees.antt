@@ -11,14 +11,14 @@ use Rattle.words.specs.Answer.{refuse, ok, _>>=_, if_then_else_}
 use Rattle.words.specs.declared.pointer.Pointer.{Pointer}
 use Rattle.state.specs.declared.record.Machine.{Machine}
 use Rattle.state.specs.Record.{inUse, liveFrame}
-use Rattle.machine.specs.declared.flag.Flag.the-variants as flag
-use Rattle.machine.specs.declared.flag.Access.{Access}
-use Rattle.machine.specs.declared.flag.Access.the-variants as access
-use Rattle.machine.specs.Flag.{flagOf}
-use Rattle.machine.specs.Static.{staticOf}
-use Rattle.machine.specs.Reference.{accept, verdictOf, referenceOf, locateOf}
-use Rattle.machine.specs.Machine.{check}
-use Rattle.machine.proofs.Passes.{verdict-exists}
+use Rattle.references.specs.declared.flag.Flag.the-variants as flag
+use Rattle.references.specs.declared.flag.Access.{Access}
+use Rattle.references.specs.declared.flag.Access.the-variants as access
+use Rattle.references.specs.Flag.{flagOf}
+use Rattle.references.specs.Static.{staticOf}
+use Rattle.references.specs.Reference.{accept, verdictOf, referenceOf, locateOf}
+use Rattle.references.specs.Check.{check}
+use Rattle.references.proofs.Passes.{verdict-exists}
 use Rattle.memory.specs.Reader.{readWord, readOf, fetch, fetchOf}
 use Rattle.isolation.specs.Visible.{byStatic, byLive, maySee, couldWrite, existing, place}
 use Rattle.isolation.specs.Isolation.{Agree}

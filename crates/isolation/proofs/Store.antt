@@ -11,8 +11,8 @@ use lib.Seq.{getD-set-same, getD-set-other}
 use Rattle.words.specs.declared.pointer.Pointer.{Pointer}
 use Rattle.state.specs.declared.record.Machine.{Machine}
 use Rattle.state.specs.Bases.{wordsIn}
-use Rattle.machine.proofs.Passes.{never}
-use Rattle.machine.proofs.Places.{index-lt, index-apart}
+use Rattle.references.proofs.Passes.{never}
+use Rattle.references.proofs.Places.{index-lt, index-apart}
 use Rattle.runs.specs.Step.{movedTo}
 use Rattle.runs.specs.Run.{Ran}
 use Rattle.isolation.specs.Visible.{maySee, couldWrite, existing, place, wordAt}

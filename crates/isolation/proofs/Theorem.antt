@@ -10,8 +10,8 @@ use Rattle.words.specs.Answer.{Answer, refuse, ok, _>>=_}
 use Rattle.words.specs.declared.pointer.Pointer.{Pointer}
 use Rattle.state.specs.declared.record.Machine.{Machine}
 use Rattle.state.specs.Bases.{wordsIn}
-use Rattle.machine.specs.declared.flag.Access.the-variants as access
-use Rattle.machine.specs.Machine.{check}
+use Rattle.references.specs.declared.flag.Access.the-variants as access
+use Rattle.references.specs.Check.{check}
 use Rattle.memory.specs.Reader.{Reader, readWord, fetch}
 use Rattle.runs.specs.Step.{Act, stop, proceed, put, cross, Done, done, moved, movedTo, decide, commit}
 use Rattle.runs.specs.Run.{Ran, ran, Ending, halted, spent, crossed, faulted, after}

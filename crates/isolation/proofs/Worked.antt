@@ -14,14 +14,14 @@ use Rattle.words.specs.ModeWord.{modeOf}
 use Rattle.state.specs.declared.record.Machine.{Machine}
 use Rattle.state.specs.Record.{noPointer, noCapability}
 use Rattle.state.specs.Bases.{baseOf, basesOf, wordsIn}
-use Rattle.machine.specs.declared.flag.Flag.the-variants as flag
-use Rattle.machine.specs.declared.flag.Access.the-variants as access
-use Rattle.machine.specs.Flag.{has}
-use Rattle.machine.specs.Static.{exists, rightsOf, staticOf}
+use Rattle.references.specs.declared.flag.Flag.the-variants as flag
+use Rattle.references.specs.declared.flag.Access.the-variants as access
+use Rattle.references.specs.Flag.{has}
+use Rattle.references.specs.Static.{exists, rightsOf, staticOf}
 use Rattle.capabilities.specs.Search.{coversOf, firstOf}
-use Rattle.machine.specs.Live.{liveMatch, liveOf}
-use Rattle.machine.specs.Reference.{verdictOf, locateOf, referenceOf}
-use Rattle.machine.specs.Machine.{check}
+use Rattle.references.specs.Live.{liveMatch, liveOf}
+use Rattle.references.specs.Reference.{verdictOf, locateOf, referenceOf}
+use Rattle.references.specs.Check.{check}
 use Rattle.memory.specs.Reader.{readOf, fetchOf, readWord, fetch}
 use Rattle.addressing.specs.Effective.{displacedBy, throughOf, effectiveOf}
 use Rattle.transfers.specs.Transfer.{jumpCheck, callWay}

@@ -7,13 +7,13 @@ use lib.ListN.{getD}
 use Rattle.state.specs.declared.record.Machine.{Machine}
 use Rattle.state.specs.Record.{inUse, liveFrame}
 use Rattle.state.specs.Bases.{basesOf}
-use Rattle.machine.specs.declared.flag.Flag.{Flag}
-use Rattle.machine.specs.declared.flag.Flag.the-variants as flag
-use Rattle.machine.specs.declared.flag.Access.{Access}
-use Rattle.machine.specs.declared.flag.Access.the-variants as access
-use Rattle.machine.specs.Static.{exists, staticOf}
-use Rattle.machine.specs.Live.{liveOf}
-use Rattle.machine.specs.Reference.{indexOf}
+use Rattle.references.specs.declared.flag.Flag.{Flag}
+use Rattle.references.specs.declared.flag.Flag.the-variants as flag
+use Rattle.references.specs.declared.flag.Access.{Access}
+use Rattle.references.specs.declared.flag.Access.the-variants as access
+use Rattle.references.specs.Static.{exists, staticOf}
+use Rattle.references.specs.Live.{liveOf}
+use Rattle.references.specs.Reference.{indexOf}
 
 -- the executing domain passes the static check
 abbrev pub byStatic : Machine → Flag → ℕ → ℕ → Bool

@@ -1,10 +1,10 @@
 // What the executing domain may see and could write.
 ghost use mathlib.Core.Path.{_≡_};
 ghost use Rattle.isolation.specs.Visible.{byStatic, byLive, maySee, couldWrite};
-use machine::flag::Access;
-use machine::flag::Flag;
-use machine::live::live_check;
-use machine::statics::static_check;
+use references::flag::Access;
+use references::flag::Flag;
+use references::live::live_check;
+use references::statics::static_check;
 use state::frames::in_use;
 use state::frames::live_frame;
 use state::record::Machine;

@@ -10,9 +10,9 @@ use lib.ListN.{getD}
 use Rattle.words.specs.Answer.{refuse, ok, if_then_else_}
 use Rattle.words.specs.declared.pointer.Pointer.{Pointer}
 use Rattle.state.specs.declared.record.Frame.{Frame}
-use Rattle.machine.specs.declared.flag.Access.{Access}
-use Rattle.machine.specs.Static.{exists, staticOf}
-use Rattle.machine.specs.Reference.{locateOf, referenceOf, verdictOf}
+use Rattle.references.specs.declared.flag.Access.{Access}
+use Rattle.references.specs.Static.{exists, staticOf}
+use Rattle.references.specs.Reference.{locateOf, referenceOf, verdictOf}
 use Rattle.memory.specs.Reader.{fetchOf, lengthOf}
 use Rattle.memory.proofs.Answers.{refused-number, accepted-number}
 

@@ -6,7 +6,7 @@ use mathlib.Core.Path.{_≡_, refl, sym, ap, _∙_}
 use borrow.Author.Tests.{eqb-true}
 use lib.Dec.{eqb}
 use Rattle.words.specs.Answer.{Answer, refuse, ok, _>>=_, if_then_else_}
-use Rattle.machine.specs.Reference.{accept}
+use Rattle.references.specs.Reference.{accept}
 
 pub refuse-ok : {A B : Type 0} {n : ℕ} {a : A} → refuse n ≡ ok a → B
 refuse-ok e = absurd (let z : _≡_ {A = ℕ} 0 1 = cc in omega arith)

@@ -9,9 +9,9 @@ use Rattle.state.specs.declared.record.Frame.{Frame}
 use Rattle.state.specs.declared.record.Machine.{Machine}
 use Rattle.state.specs.Bases.{basesOf}
 use Rattle.state.specs.Record.{inUse, liveFrame}
-use Rattle.machine.specs.declared.flag.Flag.the-variants as flag
-use Rattle.machine.specs.declared.flag.Access.the-variants as access
-use Rattle.machine.specs.Reference.{locateOf, referenceOf}
+use Rattle.references.specs.declared.flag.Flag.the-variants as flag
+use Rattle.references.specs.declared.flag.Access.the-variants as access
+use Rattle.references.specs.Reference.{locateOf, referenceOf}
 use Rattle.memory.specs.declared.WordAnswer.{WordAnswer}
 use Rattle.memory.specs.declared.WordAnswer.the-variants as variant
 

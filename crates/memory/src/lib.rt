@@ -2,14 +2,14 @@
 ghost use mathlib.Core.Path.{_≡_};
 ghost use Prim.Native.Nat.{ℕ, _<_};
 ghost use lib.ListN.{getD, set};
-ghost use Rattle.machine.specs.Reference.{verdictOf};
-ghost use Rattle.machine.specs.declared.flag.Access.the-variants as access;
+ghost use Rattle.references.specs.Reference.{verdictOf};
+ghost use Rattle.references.specs.declared.flag.Access.the-variants as access;
 ghost use Rattle.memory.specs.Reader.{readOf, fetchOf, writtenOf, wordAnswer, lengthOf};
-use machine::flag::Access;
-use machine::flag::Flag;
-use machine::reference::IndexAnswer;
-use machine::reference::locate;
-use machine::reference::reference;
+use references::flag::Access;
+use references::flag::Flag;
+use references::reference::IndexAnswer;
+use references::reference::locate;
+use references::reference::reference;
 use state::record::Frame;
 use words::pointer::Pointer;
 

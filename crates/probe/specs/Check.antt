@@ -4,8 +4,8 @@ use mathlib.Core.List.{List}
 use lib.Dec.{eqb}
 use Rattle.words.specs.Answer.{Answer, refuse, ok, if_then_else_}
 use Rattle.words.specs.declared.pointer.Pointer.{Pointer}
-use Rattle.machine.specs.declared.flag.Access.{Access}
-use Rattle.machine.specs.declared.flag.Access.the-variants as access
+use Rattle.references.specs.declared.flag.Access.{Access}
+use Rattle.references.specs.declared.flag.Access.the-variants as access
 use Rattle.checks.specs.Judged.{judgedCheck}
 use Rattle.snapshot_reader.specs.Read.{recordOf}
 

@@ -6,8 +6,8 @@ pub mod write_image;
 ghost use mathlib.Core.Path.{_≡_};
 ghost use Rattle.probe.specs.Check.{accessOf, checkOf};
 use checks::reference::check_reference;
-use machine::flag::Access;
-use machine::reference::IndexAnswer;
+use references::flag::Access;
+use references::reference::IndexAnswer;
 use snapshot_reader::record_of;
 use words::pointer::Pointer;
 

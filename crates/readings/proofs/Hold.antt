@@ -18,12 +18,12 @@ use Rattle.state.specs.Bases.{baseOf, basesOf}
 use Rattle.fresh.specs.Fresh.{freshOf}
 use Rattle.layouts.specs.SoundLayout.{allFrom, segmentTest, stackTest, rightsTest, startTest, layoutTest}
 use Rattle.soundness.specs.Sound.{registersTest, pointerTest, pointersTest, capabilityTest, emptyCapability, emptyPointer, emptyFrame, frameTest, framesTest, soundTest}
-use Rattle.machine.specs.Flag.{has}
-use Rattle.machine.specs.Static.{exists, rightsOf, staticOf}
+use Rattle.references.specs.Flag.{has}
+use Rattle.references.specs.Static.{exists, rightsOf, staticOf}
 use Rattle.capabilities.specs.Search.{coversOf, firstOf}
-use Rattle.machine.specs.Live.{liveMatch, liveOf, passedOf}
-use Rattle.machine.specs.Reference.{verdictOf, locateOf, referenceOf}
-use Rattle.machine.specs.Machine.{check}
+use Rattle.references.specs.Live.{liveMatch, liveOf, passedOf}
+use Rattle.references.specs.Reference.{verdictOf, locateOf, referenceOf}
+use Rattle.references.specs.Check.{check}
 use Rattle.checks.specs.Judged.{judgedCheck}
 use Rattle.memory.specs.Reader.{readOf, fetchOf, readWord, fetch}
 use Rattle.addressing.specs.Effective.{displacedBy, throughOf, effectiveOf}

@@ -11,8 +11,8 @@ use Rattle.words.specs.InstructionWord.{instructionOf}
 use Rattle.words.specs.declared.pointer.Pointer.{Pointer}
 use Rattle.state.specs.declared.record.Machine.{Machine}
 use Rattle.state.specs.Record.{inUse, liveFrame}
-use Rattle.machine.specs.declared.flag.Access.the-variants as access
-use Rattle.machine.specs.Live.{passedOf}
+use Rattle.references.specs.declared.flag.Access.the-variants as access
+use Rattle.references.specs.Live.{passedOf}
 use Rattle.checks.specs.Judged.{judgedCheck}
 use Rattle.runs.specs.Run.{Ran, Ending, halted, spent, crossed, faulted, refused}
 use Rattle.processor.specs.Calls.{runCall}

@@ -12,10 +12,10 @@ use Rattle.words.specs.declared.pointer.Pointer.{Pointer}
 use Rattle.words.specs.declared.instruction.Instruction.{Instruction}
 use Rattle.state.specs.declared.record.Frame.{Frame}
 use Rattle.state.specs.declared.record.Registers.{Registers}
-use Rattle.machine.specs.declared.flag.Flag.the-variants as flag
-use Rattle.machine.specs.Flag.{has}
-use Rattle.machine.specs.Static.{exists, rightsOf}
-use Rattle.machine.specs.Reference.{accept}
+use Rattle.references.specs.declared.flag.Flag.the-variants as flag
+use Rattle.references.specs.Flag.{has}
+use Rattle.references.specs.Static.{exists, rightsOf}
+use Rattle.references.specs.Reference.{accept}
 use Rattle.memory.specs.Reader.{Reader, readOf, fetchOf}
 use Rattle.addressing.specs.Effective.{effectiveOf}
 use Rattle.instructions.specs.Plan.{Plan, halt, move, store, enter, leave}

@@ -14,9 +14,9 @@ use Rattle.state.specs.declared.record.Registers.{Registers}
 use Rattle.state.specs.declared.record.Machine.{Machine}
 use Rattle.state.specs.Record.{noPointer, inUse, liveFrame}
 use Rattle.state.specs.Bases.{basesOf}
-use Rattle.machine.specs.declared.flag.Access.the-variants as access
-use Rattle.machine.specs.Reference.{verdictOf, accept, indexOf, referenceOf}
-use Rattle.machine.specs.Machine.{check}
+use Rattle.references.specs.declared.flag.Access.the-variants as access
+use Rattle.references.specs.Reference.{verdictOf, accept, indexOf, referenceOf}
+use Rattle.references.specs.Check.{check}
 use Rattle.instructions.specs.declared.turn.Event.{Event}
 use Rattle.instructions.specs.declared.turn.Event.the-variants as event
 use Rattle.memory.specs.Reader.{readOf, fetchOf, readWord, fetch, stored, writtenOf}

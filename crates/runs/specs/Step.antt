@@ -7,8 +7,8 @@ use Rattle.words.specs.Answer.{Answer, refuse, ok, _>>=_}
 use Rattle.words.specs.declared.pointer.Pointer.{Pointer}
 use Rattle.state.specs.declared.record.Registers.{Registers}
 use Rattle.state.specs.declared.record.Machine.{Machine}
-use Rattle.machine.specs.declared.flag.Access.the-variants as access
-use Rattle.machine.specs.Machine.{check}
+use Rattle.references.specs.declared.flag.Access.the-variants as access
+use Rattle.references.specs.Check.{check}
 use Rattle.memory.specs.Reader.{Reader, readWord, fetch}
 use Rattle.instructions.specs.Plan.{Plan, halt, move, store, enter, leave}
 use Rattle.instructions.specs.Instruction.{planOf}

@@ -8,9 +8,9 @@ use borrow.Author.Tests.{lt-ltb, le-ltb}
 use lib.Dec.{ltb}
 use Rattle.words.specs.Answer.{Answer, refuse, ok, _>>_, require, if_then_else_}
 use Rattle.words.specs.declared.pointer.Pointer.{Pointer}
-use Rattle.machine.specs.declared.flag.Flag.the-variants as flag
-use Rattle.machine.specs.Flag.{has}
-use Rattle.machine.specs.Static.{exists, rightsOf, staticOf}
+use Rattle.references.specs.declared.flag.Flag.the-variants as flag
+use Rattle.references.specs.Flag.{has}
+use Rattle.references.specs.Static.{exists, rightsOf, staticOf}
 use Rattle.transfers.specs.Transfer.{callWay, gatesOf}
 
 -- a static check's number, by whether the word exists and the flag is there

@@ -7,9 +7,9 @@ use lib.ListN.{getD}
 use Rattle.words.specs.Answer.{Answer, refuse, ok, _>>_, require, if_then_else_}
 use Rattle.words.specs.Numbers.{noWord, flagMissing, taggedTransfer, notGate, noFreeFrame}
 use Rattle.words.specs.declared.pointer.Pointer.{Pointer}
-use Rattle.machine.specs.declared.flag.Flag.the-variants as flag
-use Rattle.machine.specs.Flag.{has}
-use Rattle.machine.specs.Static.{exists, rightsOf, staticOf}
+use Rattle.references.specs.declared.flag.Flag.the-variants as flag
+use Rattle.references.specs.Flag.{has}
+use Rattle.references.specs.Static.{exists, rightsOf, staticOf}
 use Rattle.transfers.specs.declared.CallAnswer.{CallAnswer}
 use Rattle.transfers.specs.declared.CallAnswer.the-variants as way
 

@@ -1,8 +1,8 @@
 // The checks of JUMP, and of CALL up to the argument list.
 ghost use mathlib.Core.Path.{_≡_};
 ghost use Rattle.transfers.specs.Transfer.{jumpCheck, callWay, callAnswer, gatesOf};
-use machine::flag::Flag;
-use machine::statics::static_check;
+use references::flag::Flag;
+use references::statics::static_check;
 use words::pointer::Pointer;
 
 // What a call's checks give: a call inside the domain, one through a gate, or the number of the fault.

@@ -1,7 +1,7 @@
 -- `memory::write` meets its contract.
 use borrow.Author.Needs.{needs}
 use mathlib.Core.Path.{_≡_, refl, sym, ap, _∙_}
-use Rattle.machine.specs.Reference.{indexAnswer}
+use Rattle.references.specs.Reference.{indexAnswer}
 use Rattle.memory.specs.Reader.{writtenOf}
 use Rattle.memory.proofs.Accesses.{reference-refused, reference-passed}
 use Rattle.memory.proofs.write.Statement.{statement}

@@ -2,7 +2,7 @@
 use native.Mathlib.Omega.{arith}
 use mathlib.Core.Path.{sym, ap, _∙_}
 use borrow.Author.Needs.{needs}
-use Rattle.machine.specs.Reference.{indexAnswer}
+use Rattle.references.specs.Reference.{indexAnswer}
 use Rattle.checks.proofs.Judged.{judged-lt}
 use Rattle.probe.specs.Check.{checkOf}
 use Rattle.probe.proofs.zenkorv_check.Statement.{statement}

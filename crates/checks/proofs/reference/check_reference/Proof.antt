@@ -1,7 +1,7 @@
 -- `checks::reference::check_reference` meets its contract.
 use borrow.Author.Needs.{needs}
 use Rattle.layouts.proofs.Tests.{answered-true, answered-false}
-use Rattle.machine.specs.Machine.{check}
+use Rattle.references.specs.Check.{check}
 use Rattle.checks.specs.Judged.{judgedCheck}
 use Rattle.checks.proofs.reference.check_reference.Statement.{statement}
 use Rattle.checks.proofs.reference.check_reference.Tie as tie

@@ -1,7 +1,7 @@
 -- `checks::statics::check_static` meets its contract.
 use borrow.Author.Needs.{needs}
 use Rattle.layouts.proofs.Tests.{answered-true, answered-false}
-use Rattle.machine.specs.Machine.{staticCheck}
+use Rattle.references.specs.Check.{staticCheck}
 use Rattle.checks.specs.Judged.{judgedStatic}
 use Rattle.checks.proofs.statics.check_static.Statement.{statement}
 use Rattle.checks.proofs.statics.check_static.Tie as tie

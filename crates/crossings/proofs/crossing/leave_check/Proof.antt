@@ -7,7 +7,7 @@ use Rattle.crossings.proofs.crossing.leave_check.Tie as tie
 use Rattle.crossings.proofs.crossing.leave_check.Reads as reads
 use Rattle.crossings.proofs.crossing.leave_check.Lts as lts
 use Rattle.crossings.proofs.crossing.same_place.Reads as same-place-reads
-use Rattle.machine.proofs.statics.static_check.Reads as static-check-reads
+use Rattle.references.proofs.statics.static_check.Reads as static-check-reads
 
 -- src/crossing.rt:136:9
 returns : tie.Need-returns

@@ -1,5 +1,0 @@
-pub mod Flag
-pub mod Static
-pub mod Live
-pub mod Reference
-pub mod Machine

@@ -1,0 +1,5 @@
+pub mod Flag
+pub mod Static
+pub mod Live
+pub mod Reference
+pub mod Check
