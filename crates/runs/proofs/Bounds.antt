@@ -1,4 +1,4 @@
--- Bounds of a run's moves: what is counted is below the limit, and an entry has a frame free.
+-- Bounds of a local run: what is counted is below the limit, and an entry has a frame free.
 use Prim.Native.Nat.{ℕ, zero, suc, _+_, _-_, _<_, _≤_}
 use native.Mathlib.Omega.{arith}
 use mathlib.Core.Bool.{Bool, true, false}
@@ -20,12 +20,12 @@ use Rattle.instructions.specs.Turn.{Turned, ended, moved, entering, leaving, se
 use Rattle.crossings.specs.Crossing.{Changes, enterParts, leaveCheck, leaveParts}
 use Rattle.arguments.specs.ArgumentList.{frameOf}
 use Rattle.state.specs.Record.{noPointer}
-use Rattle.moves.specs.Moves.{Paused, paused, onward, movesFrom}
+use Rattle.local_runs.specs.LocalRun.{Paused, paused, onward, localFrom}
 use Rattle.runs.specs.Rest.{Countable, Rest, ends, goes, restAfter, restOf}
 use Rattle.runs.proofs.Free.{Free, plan-free}
-use Rattle.moves.proofs.Moving.{turn-length}
+use Rattle.local_runs.proofs.LocalRuns.{turn-length}
 
--- an event that ends the moves before the limit, after low instructions at least, and finds a frame free where it enters
+-- an event that ends a local run before the limit, after low instructions at least, and finds a frame free where it enters
 abbrev pub Fine : ℕ → ℕ → ℕ → ℕ → Event → Type 0
 Fine depth low limit n event.Moved = Unit {0}
 Fine depth low limit n (event.Pointed i p) = Unit {0}
@@ -69,13 +69,13 @@ module _ (lengths gates rights stacks bases : List ℕ) (depth : ℕ) (frame : F
       (plan-free depth lengths gates rights stacks r ps (readOf lengths rights bases words (r .domain) depth frame) (fetchOf lengths rights bases words (r .domain) (r .segment) (r .word)))
 
   abbrev from : ℕ → ℕ → Registers → List Pointer → List ℕ → Paused
-  from = movesFrom lengths gates rights stacks bases depth frame
+  from = localFrom lengths gates rights stacks bases depth frame
 
-  pub moves-fine : (low limit k n : ℕ) → low ≤ n → n + k ≡ limit → (r : Registers) (ps : List Pointer) (words : List ℕ) → Fine depth low limit (from k n r ps words .pause .count) (from k n r ps words .pause .event)
-  unfolding movesFrom
-  moves-fine low limit zero n h e r ps words = tt
-  moves-fine low limit (suc k) n h e r ps words =
-      by (moves-fine low limit k (n + 1) (omega arith) (omega arith)) (turnOf lengths gates rights stacks bases words depth frame r ps) (turn-free words r ps)
+  pub local-fine : (low limit k n : ℕ) → low ≤ n → n + k ≡ limit → (r : Registers) (ps : List Pointer) (words : List ℕ) → Fine depth low limit (from k n r ps words .pause .count) (from k n r ps words .pause .event)
+  unfolding localFrom
+  local-fine low limit zero n h e r ps words = tt
+  local-fine low limit (suc k) n h e r ps words =
+      by (local-fine low limit k (n + 1) (omega arith) (omega arith)) (turnOf lengths gates rights stacks bases words depth frame r ps) (turn-free words r ps)
     where
       by : ((s : Registers) (qs : List Pointer) (v : List ℕ) → Fine depth low limit (from k (n + 1) s qs v .pause .count) (from k (n + 1) s qs v .pause .event))
           → (t : Answer Turned) → FreeTurn depth t
@@ -86,11 +86,11 @@ module _ (lengths gates rights stacks bases : List ℕ) (depth : ℕ) (frame : F
       by more (ok (entering p)) free = (omega arith, (h, free))
       by more (ok (leaving p)) free = (omega arith, h)
 
-  pub moves-length : (k n : ℕ) (r : Registers) (ps : List Pointer) (words : List ℕ) → length (from k n r ps words .words) ≡ length words
-  unfolding movesFrom
-  moves-length zero n r ps words = refl
-  moves-length (suc k) n r ps words =
-      by (moves-length k (n + 1)) (turnOf lengths gates rights stacks bases words depth frame r ps) (turnWords lengths gates rights stacks bases words depth frame r ps) (turn-length lengths gates rights stacks bases depth frame words r ps)
+  pub local-length : (k n : ℕ) (r : Registers) (ps : List Pointer) (words : List ℕ) → length (from k n r ps words .words) ≡ length words
+  unfolding localFrom
+  local-length zero n r ps words = refl
+  local-length (suc k) n r ps words =
+      by (local-length k (n + 1)) (turnOf lengths gates rights stacks bases words depth frame r ps) (turnWords lengths gates rights stacks bases words depth frame r ps) (turn-length lengths gates rights stacks bases depth frame words r ps)
     where
       by : ((s : Registers) (qs : List Pointer) (v : List ℕ) → length (from k (n + 1) s qs v .words) ≡ length v)
           → (t : Answer Turned) (next : List ℕ) → length next ≡ length words → length (onward (from k (n + 1)) n r ps next t .words) ≡ length words

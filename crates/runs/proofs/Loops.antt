@@ -14,13 +14,13 @@ use Rattle.state.specs.Bases.{basesOf}
 use Rattle.crossings.specs.Crossing.{Changes}
 use Rattle.runs.specs.declared.outcome.End.{End}
 use Rattle.runs.specs.declared.outcome.End.the-variants as end
-use Rattle.moves.specs.declared.Pause.{Pause}
+use Rattle.local_runs.specs.declared.Pause.{Pause}
 use Rattle.runs.specs.declared.rest.Crossing.{Crossing}
 use Rattle.runs.specs.Run.{Ran, ran, crossed, runFrom}
-use Rattle.moves.specs.Moves.{Paused, movesFrom}
+use Rattle.local_runs.specs.LocalRun.{Paused, localFrom}
 use Rattle.runs.specs.Rest.{endAnswer, Rest, restBy, restAnswer, restOf, Countable}
-use Rattle.runs.proofs.Turning.{withParts, crossedTo, continued, movesAt, restOfMoves, run-moves}
-use Rattle.runs.proofs.Bounds.{Fine, fine-countable, moves-fine, moves-length, Room, rest-room}
+use Rattle.runs.proofs.Turning.{withParts, crossedTo, continued, localAt, restOfLocal, run-resumes}
+use Rattle.runs.proofs.Bounds.{Fine, fine-countable, local-fine, local-length, Room, rest-room}
 
 -- a run has come to a machine and its words after n instructions
 pub record Runs (stretch : Bool) (limit : ℕ) (m₀ : Machine) (words₀ : List ℕ) (m : Machine) (words : List ℕ) (n : ℕ) : Type 0 where
@@ -32,22 +32,22 @@ pub record Runs (stretch : Bool) (limit : ℕ) (m₀ : Machine) (words₀ : List
 pub starts : (stretch : Bool) (limit : ℕ) (m : Machine) (words : List ℕ) → m .depth ≤ 8 → Runs stretch limit m words m words 0
 starts stretch limit m words h = record { within = omega arith; most = h; same = refl; rest = ap (λ (k : ℕ). runFrom stretch k 0 m words) (let z : limit ≡ limit - 0 = omega arith in z) }
 
--- its moves have been made: they paused at t, with the words w
+-- its local run has been made: it paused at t, with the words w
 pub record Pauses (limit : ℕ) (m : Machine) (n : ℕ) (words₀ : List ℕ) (t : Pause) (w : List ℕ) : Type 0 where
   pub fine : Fine (m .depth) n limit (t .count) (t .event)
   pub same : length w ≡ length words₀
 
 module _ (stretch : Bool) (limit : ℕ) (m₀ : Machine) (words₀ : List ℕ) (m : Machine) (words : List ℕ) (n : ℕ) (l : Runs stretch limit m₀ words₀ m words n)
     (places : List ℕ) (here : places ≡ basesOf (m .layout .lengths)) (frame : Frame) (live : frame ≡ liveFrame (m .depth) (m .frames)) where
-  abbrev moves : Paused
-  moves = movesFrom (m .layout .lengths) (m .layout .gates) (m .layout .rights) (m .layout .stacks) places (m .depth) frame (limit - n) n (m .registers) (m .pointers) words
+  abbrev paused : Paused
+  paused = localFrom (m .layout .lengths) (m .layout .gates) (m .layout .rights) (m .layout .stacks) places (m .depth) frame (limit - n) n (m .registers) (m .pointers) words
 
-  module _ (t : Pause) (w : List ℕ) (et : t ≡ moves .pause) (ew : w ≡ moves .words) where
+  module _ (t : Pause) (w : List ℕ) (et : t ≡ paused .pause) (ew : w ≡ paused .words) where
     pub pauses : Pauses limit m n words₀ t w
     pauses =
         record {
-          fine = rw et (moves-fine (m .layout .lengths) (m .layout .gates) (m .layout .rights) (m .layout .stacks) places (m .depth) frame n limit (limit - n) n (omega arith) (omega (arith, l .within)) (m .registers) (m .pointers) words);
-          same = ap length ew ∙ moves-length (m .layout .lengths) (m .layout .gates) (m .layout .rights) (m .layout .stacks) places (m .depth) frame (limit - n) n (m .registers) (m .pointers) words ∙ l .same;
+          fine = rw et (local-fine (m .layout .lengths) (m .layout .gates) (m .layout .rights) (m .layout .stacks) places (m .depth) frame n limit (limit - n) n (omega arith) (omega (arith, l .within)) (m .registers) (m .pointers) words);
+          same = ap length ew ∙ local-length (m .layout .lengths) (m .layout .gates) (m .layout .rights) (m .layout .stacks) places (m .depth) frame (limit - n) n (m .registers) (m .pointers) words ∙ l .same;
         }
 
     pub countable : limit ≤ 65535 → Countable (t .count) (t .event)
@@ -56,7 +56,7 @@ module _ (stretch : Bool) (limit : ℕ) (m₀ : Machine) (words₀ : List ℕ) (
     module _ (c : Crossing) (ec : restAnswer c ≡ restOf (m .layout .lengths) (m .layout .rights) places (m .layout .gatedomains) (m .layout .stacks) w (m .depth) frame (t .registers) (t .pointers) (t .count) (t .event)) where
       -- the whole run goes on from the crossing's answer
       pub rested : runFrom stretch limit 0 m₀ words₀ ≡ continued stretch limit (withParts m (t .registers) (t .pointers)) w (restAnswer c)
-      rested = l .rest ∙ run-moves stretch limit (limit - n) n (omega (arith, l .within)) m (simp (le-leb _ _ (l .most)) refl) words ∙ rw (ec, et, ew, live, here) refl
+      rested = l .rest ∙ run-resumes stretch limit (limit - n) n (omega (arith, l .within)) m (simp (le-leb _ _ (l .most)) refl) words ∙ rw (ec, et, ew, live, here) refl
 
       pub room : Room n limit (restAnswer c)
       room = rw ec (rest-room _ _ _ _ _ _ _ _ _ _ n limit (t .count) (l .most) (t .event) (pauses .fine))

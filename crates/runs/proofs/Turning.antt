@@ -1,4 +1,4 @@
--- A run as turns: moves, then an ending or a crossing to go on from.
+-- A run as a local run, then an ending or a crossing to go on from.
 use Prim.Native.Nat.{ℕ, zero, suc, _+_, _-_, _<_, _≤_}
 use native.Mathlib.Omega.{arith}
 use mathlib.Core.Bool.{Bool, true, false}
@@ -29,7 +29,7 @@ use Rattle.crossings.specs.Crossing.{Changes, entered, left, enterOf, leaveOf, 
 use Rattle.runs.specs.Step.{Act, cross, Done, done, resolve, decide, commit, execute}
 use Rattle.runs.specs.Step.{moved as moving}
 use Rattle.runs.specs.Run.{Ran, ran, Ending, halted, spent, crossed, faulted, after, runFrom}
-use Rattle.moves.specs.Moves.{Paused, paused, onward, movesFrom}
+use Rattle.local_runs.specs.LocalRun.{Paused, paused, onward, localFrom}
 use Rattle.runs.specs.Rest.{Rest, ends, goes, restAfter, restOf}
 
 -- a machine with other registers and pointers
@@ -51,14 +51,14 @@ abbrev pub restAt : Machine → List ℕ → ℕ → Event → Rest
 restAt m words n e =
     restOf (m .layout .lengths) (m .layout .rights) (basesOf (m .layout .lengths)) (m .layout .gatedomains) (m .layout .stacks) words (m .depth) (liveFrame (m .depth) (m .frames)) (m .registers) (m .pointers) n e
 
--- a machine's moves
-abbrev pub movesAt : Machine → ℕ → ℕ → List ℕ → Paused
-movesAt m k n words =
-    movesFrom (m .layout .lengths) (m .layout .gates) (m .layout .rights) (m .layout .stacks) (basesOf (m .layout .lengths)) (m .depth) (liveFrame (m .depth) (m .frames)) k n (m .registers) (m .pointers) words
+-- a machine's local run
+abbrev pub localAt : Machine → ℕ → ℕ → List ℕ → Paused
+localAt m k n words =
+    localFrom (m .layout .lengths) (m .layout .gates) (m .layout .rights) (m .layout .stacks) (basesOf (m .layout .lengths)) (m .depth) (liveFrame (m .depth) (m .frames)) k n (m .registers) (m .pointers) words
 
--- a run after its moves
-abbrev pub restOfMoves : Bool → ℕ → Machine → Paused → Ran
-restOfMoves stretch limit m p =
+-- a run after a local run
+abbrev pub restOfLocal : Bool → ℕ → Machine → Paused → Ran
+restOfLocal stretch limit m p =
     let n = withParts m (p .pause .registers) (p .pause .pointers) in continued stretch limit n (p .words) (restAt n (p .words) (p .pause .count) (p .pause .event))
 
 module _ (stretch : Bool) (limit k n : ℕ) (count : limit - (n + 1) ≡ k) (m : Machine) (words : List ℕ) where
@@ -157,17 +157,17 @@ module _ (stretch : Bool) (limit k n : ℕ) (count : limit - (n + 1) ≡ k) (m :
   run-turned u = by-plan u (planOf (m .layout .lengths) (m .layout .gates) (m .layout .rights) (m .layout .stacks) (m .depth) (m .registers) (m .pointers) (fetch m words) (readWord m words)) ∙ rw u refl
 
 module _ (stretch : Bool) (limit : ℕ) where
-  -- a run is its moves and then its rest
-  pub run-moves : (k n : ℕ) → n + k ≡ limit → (m : Machine) → inUse (m .depth) ≡ m .depth → (words : List ℕ) → runFrom stretch k n m words ≡ restOfMoves stretch limit m (movesAt m k n words)
-  unfolding runFrom movesFrom
-  run-moves zero n e m u words = refl
-  run-moves (suc k) n e m u words =
+  -- a run is a local run and then its rest
+  pub run-resumes : (k n : ℕ) → n + k ≡ limit → (m : Machine) → inUse (m .depth) ≡ m .depth → (words : List ℕ) → runFrom stretch k n m words ≡ restOfLocal stretch limit m (localAt m k n words)
+  unfolding runFrom localFrom
+  run-resumes zero n e m u words = refl
+  run-resumes (suc k) n e m u words =
       run-turned stretch limit k n (omega arith) m words u
-      ∙ by (run-moves k (n + 1) (omega arith)) (turnAt stretch limit k n (omega arith) m words) (wordsAt stretch limit k n (omega arith) m words)
+      ∙ by (run-resumes k (n + 1) (omega arith)) (turnAt stretch limit k n (omega arith) m words) (wordsAt stretch limit k n (omega arith) m words)
     where
-      by : ((m : Machine) → inUse (m .depth) ≡ m .depth → (words : List ℕ) → runFrom stretch k (n + 1) m words ≡ restOfMoves stretch limit m (movesAt m k (n + 1) words))
+      by : ((m : Machine) → inUse (m .depth) ≡ m .depth → (words : List ℕ) → runFrom stretch k (n + 1) m words ≡ restOfLocal stretch limit m (localAt m k (n + 1) words))
           → (t : Answer Turned) (next : List ℕ) → turned stretch limit k n (omega arith) m words next t
-          ≡ restOfMoves stretch limit m (onward (λ r pointers v. movesAt (withParts m r pointers) k (n + 1) v) n (m .registers) (m .pointers) next t)
+          ≡ restOfLocal stretch limit m (onward (λ r pointers v. localAt (withParts m r pointers) k (n + 1) v) n (m .registers) (m .pointers) next t)
       by more (refuse f) next = refl
       by more (ok ended) next = refl
       by more (ok (moved r pointers)) next = more (withParts m r pointers) u next

@@ -1,4 +1,4 @@
--- What a run comes to after its moves: it ends, or it goes on from a crossing.
+-- What a run comes to after a local run: it ends, or it goes on from a crossing.
 use Prim.Native.Nat.{ℕ, _+_, _-_, _<_}
 use mathlib.Core.Bool.{Bool, true, false}
 use mathlib.Core.List.{List}
@@ -60,7 +60,7 @@ abbrev pub restAfter : Registers → List Pointer → ℕ → ℕ → ℕ → An
 restAfter r pointers n row depth (refuse f) = ends r pointers n (faulted f)
 restAfter r pointers n row depth (ok changes) = goes (n + 1) row depth changes
 
--- after n instructions and moves that pause at an event; where that is no pause, the limit is reached
+-- after n instructions and a local run that pauses at an event; where that is no pause, the limit is reached
 abbrev pub restOf : List ℕ → List ℕ → List ℕ → List ℕ → List ℕ → List ℕ → ℕ → Frame → Registers → List Pointer → ℕ → Event → Rest
 restOf lengths rights bases gatedomains stacks words depth frame r pointers n event.Moved = ends r pointers n spent
 restOf lengths rights bases gatedomains stacks words depth frame r pointers n (event.Pointed i p) = ends r pointers n spent

@@ -1,4 +1,4 @@
-// Runs: moves and crossings in turn, up to an end or a limit.
+// Runs: local runs and crossings by turns, up to an end or a limit.
 pub mod outcome;
 mod rest;
 mod running;

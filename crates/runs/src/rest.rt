@@ -1,4 +1,4 @@
-// What a run comes to after its moves: it ends, or it goes on from a crossing.
+// What a run comes to after a local run: it ends, or it goes on from a crossing.
 ghost use mathlib.Core.Path.{_≡_};
 ghost use Prim.Native.Nat.{_<_, _≤_, _-_};
 ghost use Rattle.crossings.specs.Crossing.{crossedAnswer};
@@ -86,7 +86,7 @@ fn crossed_rest(
     }
 }
 
-// The rest after n instructions and moves that pause at an event.
+// The rest after n instructions and a local run that pauses at an event.
 pub fn rest<'a>(
     lengths: &'a [u16; 16],
     rights: &'a [u8; 128],

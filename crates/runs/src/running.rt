@@ -6,7 +6,7 @@ ghost use Rattle.runs.specs.Rest.{ranAnswer};
 use crate::outcome::End;
 use crate::outcome::Outcome;
 use crate::rest::rest;
-use moves::make_moves;
+use local_runs::run_local;
 use state::bases::bases;
 use state::frames::live_row;
 use state::record::Frame;
@@ -56,7 +56,7 @@ pub fn run_on(m: Machine, words: &mut [u32], limit: u16, stretch: bool) -> Outco
     loop {
         let live = live_row(depth);
         let frame = frames[live];
-        let t = make_moves(
+        let t = run_local(
             &layout.lengths,
             &layout.gates,
             &layout.rights,

@@ -54,8 +54,8 @@ live : (c : tie.After-live-row Inv-loop μ-loop) →
     let l = c .before .loop in getD (l .frames) (c .live-row .result) noFrame ≡ liveFrame (l .depth) (l .frames)
 live c = ap (λ (k : ℕ). getD (c .before .loop .frames) k noFrame) (c .live-row .ensures .0)
 
-make-moves-requires : tie.Need-make-moves-requires Inv-loop μ-loop
-make-moves-requires c κs = search needs
+run-local-requires : tie.Need-run-local-requires Inv-loop μ-loop
+run-local-requires c κs = search needs
 
 -- the record that the locals hold where a turn of the loop begins
 abbrev at : tie.At-loop Inv-loop μ-loop → Machine
@@ -65,7 +65,7 @@ rest-requires : tie.Need-rest-requires Inv-loop μ-loop
 rest-requires c κs =
     let m = c .before .before .before .before .before .before .before .before .before .before .before in
     let l = m .before .before .before .before .before .before .before .before .before .before in
-    (countable _ _ _ _ (at (m .before .before .before .before .before .before .before .before .before .before)) _ _ (m .before .before .before .before .before .before .before .before .before .before .loop .inv) _ (m .before .before .before .before .before .before .before .before .before .before .before .before .before .before .bases .ensures) _ (live (m .before .before .before .before .before .before .before .before .before)) _ _ (m .make-moves .ensures .0) (m .make-moves .ensures .1) (omega (arith, l .before .before .before .before .before .before .before .before .before .fits .limit)), l .loop .inv .most)
+    (countable _ _ _ _ (at (m .before .before .before .before .before .before .before .before .before .before)) _ _ (m .before .before .before .before .before .before .before .before .before .before .loop .inv) _ (m .before .before .before .before .before .before .before .before .before .before .before .before .before .before .bases .ensures) _ (live (m .before .before .before .before .before .before .before .before .before)) _ _ (m .run-local .ensures .0) (m .run-local .ensures .1) (omega (arith, l .before .before .before .before .before .before .before .before .before .fits .limit)), l .loop .inv .most)
 
 enum-told : tie.Need-enum-told Inv-loop μ-loop
 enum-told c = c .match .keys1
@@ -74,7 +74,7 @@ enum-told c = c .match .keys1
 crossing : (c : tie.After-enum-told Inv-loop μ-loop) →
     let r = c .before .before .before .before in
     (r .rest .result .row < 8) × ((r .rest .result .depth ≤ 8) × ((r .before .before .before .before .before .before .before .before .before .before .before .before .before .before .before .before .before .before .before .before .before .before .loop .n < r .rest .result .count) × (r .rest .result .count ≤ r .before .before .before .before .before .before .before .before .before .before .before .before .before .before .before .before .before .before .before .before .before .before .before .before .before .before .before .before .before .before .before .args .limit)))
-crossing c = let r = c .before .before .before .before in let m = r .before .before .before .before .before .before .before .before .before .before .before .before in bounds _ _ _ _ (at (m .before .before .before .before .before .before .before .before .before .before)) _ _ (m .before .before .before .before .before .before .before .before .before .before .loop .inv) _ (m .before .before .before .before .before .before .before .before .before .before .before .before .before .before .bases .ensures) _ (live (m .before .before .before .before .before .before .before .before .before)) _ _ (m .make-moves .ensures .0) (m .make-moves .ensures .1) _ (r .rest .ensures) (c .enum-told .given .1)
+crossing c = let r = c .before .before .before .before in let m = r .before .before .before .before .before .before .before .before .before .before .before .before in bounds _ _ _ _ (at (m .before .before .before .before .before .before .before .before .before .before)) _ _ (m .before .before .before .before .before .before .before .before .before .before .loop .inv) _ (m .before .before .before .before .before .before .before .before .before .before .before .before .before .before .bases .ensures) _ (live (m .before .before .before .before .before .before .before .before .before)) _ _ (m .run-local .ensures .0) (m .run-local .ensures .1) _ (r .rest .ensures) (c .enum-told .given .1)
 
 cast-row : tie.Need-cast-row Inv-loop μ-loop
 cast-row c = omega (arith, crossing (c .before .before) .0)
@@ -89,32 +89,32 @@ outcome-requires : tie.Need-outcome-requires Inv-loop μ-loop
 outcome-requires c κs = tt
 
 same-length : tie.Need-same-length Inv-loop μ-loop
-same-length c = let m = c .before .before .before .before .before .before .before .before .before .before .before .before .before .before .before .before .before .before .before .before in pauses _ _ _ _ (at (m .before .before .before .before .before .before .before .before .before .before)) _ _ (m .before .before .before .before .before .before .before .before .before .before .loop .inv) _ (m .before .before .before .before .before .before .before .before .before .before .before .before .before .before .bases .ensures) _ (live (m .before .before .before .before .before .before .before .before .before)) _ _ (m .make-moves .ensures .0) (m .make-moves .ensures .1) .same
+same-length c = let m = c .before .before .before .before .before .before .before .before .before .before .before .before .before .before .before .before .before .before .before .before in pauses _ _ _ _ (at (m .before .before .before .before .before .before .before .before .before .before)) _ _ (m .before .before .before .before .before .before .before .before .before .before .loop .inv) _ (m .before .before .before .before .before .before .before .before .before .before .before .before .before .before .bases .ensures) _ (live (m .before .before .before .before .before .before .before .before .before)) _ _ (m .run-local .ensures .0) (m .run-local .ensures .1) .same
 
 returns : tie.Need-returns Inv-loop μ-loop
 returns c =
     let r = c .before .before .before .before .before .before .before .before in
     let m = r .before .before .before .before .before .before .before .before .before .before .before .before in
-    ap (λ (o : Outcome). ranAnswer o (m .make-moves .last .1 .1 .1 .1 .1 .0)) (c .outcome .ensures) ∙ sym (crossed-so _ _ _ _ (at (m .before .before .before .before .before .before .before .before .before .before)) _ _ (m .before .before .before .before .before .before .before .before .before .before .loop .inv) _ (m .before .before .before .before .before .before .before .before .before .before .before .before .before .before .bases .ensures) _ (live (m .before .before .before .before .before .before .before .before .before)) _ _ (m .make-moves .ensures .0) (m .make-moves .ensures .1) _ (r .rest .ensures) (c .before .before .before .before .enum-told .given .1) (c .before .if1 .taken))
+    ap (λ (o : Outcome). ranAnswer o (m .run-local .last .1 .1 .1 .1 .1 .0)) (c .outcome .ensures) ∙ sym (crossed-so _ _ _ _ (at (m .before .before .before .before .before .before .before .before .before .before)) _ _ (m .before .before .before .before .before .before .before .before .before .before .loop .inv) _ (m .before .before .before .before .before .before .before .before .before .before .before .before .before .before .bases .ensures) _ (live (m .before .before .before .before .before .before .before .before .before)) _ _ (m .run-local .ensures .0) (m .run-local .ensures .1) _ (r .rest .ensures) (c .before .before .before .before .enum-told .given .1) (c .before .if1 .taken))
 
 loop-less : tie.Need-loop-less Inv-loop μ-loop
 loop-less c = omega (arith, crossing (c .before .before .before) .1 .1 .0, crossing (c .before .before .before) .1 .1 .1)
 
 loop-again : tie.Need-loop-again Inv-loop μ-loop
-loop-again c = let r = c .before .before .before .before .before .before .before in let m = r .before .before .before .before .before .before .before .before .before .before .before .before in goes-on _ _ _ _ (at (m .before .before .before .before .before .before .before .before .before .before)) _ _ (m .before .before .before .before .before .before .before .before .before .before .loop .inv) _ (m .before .before .before .before .before .before .before .before .before .before .before .before .before .before .bases .ensures) _ (live (m .before .before .before .before .before .before .before .before .before)) _ _ (m .make-moves .ensures .0) (m .make-moves .ensures .1) _ (r .rest .ensures) (c .before .before .before .enum-told .given .1) (c .if1 .left)
+loop-again c = let r = c .before .before .before .before .before .before .before in let m = r .before .before .before .before .before .before .before .before .before .before .before .before in goes-on _ _ _ _ (at (m .before .before .before .before .before .before .before .before .before .before)) _ _ (m .before .before .before .before .before .before .before .before .before .before .loop .inv) _ (m .before .before .before .before .before .before .before .before .before .before .before .before .before .before .bases .ensures) _ (live (m .before .before .before .before .before .before .before .before .before)) _ _ (m .run-local .ensures .0) (m .run-local .ensures .1) _ (r .rest .ensures) (c .before .before .before .enum-told .given .1) (c .if1 .left)
 
 outcome-requires-2 : tie.Need-outcome-requires-2 Inv-loop μ-loop
 outcome-requires-2 c κs = tt
 
 same-length-2 : tie.Need-same-length-2 Inv-loop μ-loop
-same-length-2 c = let m = c .before .before .before .before .before .before .before .before .before .before .before .before .before .before .before .before in pauses _ _ _ _ (at (m .before .before .before .before .before .before .before .before .before .before)) _ _ (m .before .before .before .before .before .before .before .before .before .before .loop .inv) _ (m .before .before .before .before .before .before .before .before .before .before .before .before .before .before .bases .ensures) _ (live (m .before .before .before .before .before .before .before .before .before)) _ _ (m .make-moves .ensures .0) (m .make-moves .ensures .1) .same
+same-length-2 c = let m = c .before .before .before .before .before .before .before .before .before .before .before .before .before .before .before .before in pauses _ _ _ _ (at (m .before .before .before .before .before .before .before .before .before .before)) _ _ (m .before .before .before .before .before .before .before .before .before .before .loop .inv) _ (m .before .before .before .before .before .before .before .before .before .before .before .before .before .before .bases .ensures) _ (live (m .before .before .before .before .before .before .before .before .before)) _ _ (m .run-local .ensures .0) (m .run-local .ensures .1) .same
 
 returns-2 : tie.Need-returns-2 Inv-loop μ-loop
 returns-2 c =
     let r = c .before .before .before .before in
     let m = r .before .before .before .before .before .before .before .before .before .before .before .before in
-    ap (λ (o : Outcome). ranAnswer o (m .make-moves .last .1 .1 .1 .1 .1 .0)) (c .outcome2 .ensures)
-    ∙ sym (ends-so _ _ _ _ (at (m .before .before .before .before .before .before .before .before .before .before)) _ _ (m .before .before .before .before .before .before .before .before .before .before .loop .inv) _ (m .before .before .before .before .before .before .before .before .before .before .before .before .before .before .bases .ensures) _ (live (m .before .before .before .before .before .before .before .before .before)) _ _ (m .make-moves .ensures .0) (m .make-moves .ensures .1) (r .rest .result) (r .rest .ensures) (λ e. another (rw e at (c .before .match .keys2))))
+    ap (λ (o : Outcome). ranAnswer o (m .run-local .last .1 .1 .1 .1 .1 .0)) (c .outcome2 .ensures)
+    ∙ sym (ends-so _ _ _ _ (at (m .before .before .before .before .before .before .before .before .before .before)) _ _ (m .before .before .before .before .before .before .before .before .before .before .loop .inv) _ (m .before .before .before .before .before .before .before .before .before .before .before .before .before .before .bases .ensures) _ (live (m .before .before .before .before .before .before .before .before .before)) _ _ (m .run-local .ensures .0) (m .run-local .ensures .1) (r .rest .result) (r .rest .ensures) (λ e. another (rw e at (c .before .match .keys2))))
 
 pub run-on-spec : {M : Type 1} → statement M
 run-on-spec =
@@ -127,7 +127,7 @@ run-on-spec =
     live-row-requires
     mul-frame
     array-copy-out-frame
-    make-moves-requires
+    run-local-requires
     rest-requires
     enum-told
     cast-row

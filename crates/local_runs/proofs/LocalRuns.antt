@@ -1,4 +1,4 @@
--- The loop of moves, against the moves that the definition gives.
+-- The loop of a local run, against its definition.
 use Prim.Native.Nat.{ℕ, suc, _+_, _-_, _<_, _≤_}
 use native.Mathlib.Omega.{arith}
 use mathlib.Core.List.{List}
@@ -15,9 +15,9 @@ use Rattle.instructions.specs.declared.turn.Event.the-variants as event
 use Rattle.memory.specs.Reader.{stored, writtenOf}
 use Rattle.instructions.specs.Plan.{Plan, halt, move, store, enter, leave}
 use Rattle.instructions.specs.Turn.{Turned, moved, eventAnswer, settledWords, planned, turnOf, turnWords}
-use Rattle.moves.specs.Moves.{Paused, paused, onward, movesFrom}
+use Rattle.local_runs.specs.LocalRun.{Paused, paused, onward, localFrom}
 
--- an event at which the moves pause
+-- an event at which a local run pauses
 abbrev pub Stops : Event → Type 0
 Stops event.Moved = ⊥
 Stops (event.Pointed i p) = ⊥
@@ -53,17 +53,17 @@ module _ (lengths gates rights stacks bases : List ℕ) (depth : ℕ) (frame : F
   unfolding turnWords
   turn-length words r pointers = settled-length words r pointers (planned lengths gates rights stacks bases words depth frame r pointers)
 
-  -- the moves have come to registers, pointers and words after n instructions
-  pub record Moving (limit from : ℕ) (r₀ : Registers) (ps₀ : List Pointer) (words₀ : List ℕ) (n : ℕ) (r : Registers) (ps : List Pointer) (words : List ℕ) : Type 0 where
+  -- a local run has come to registers, pointers and words after n instructions
+  pub record Local (limit from : ℕ) (r₀ : Registers) (ps₀ : List Pointer) (words₀ : List ℕ) (n : ℕ) (r : Registers) (ps : List Pointer) (words : List ℕ) : Type 0 where
     pub same : length words ≡ length words₀
-    pub rest : movesFrom lengths gates rights stacks bases depth frame (limit - from) from r₀ ps₀ words₀ ≡ movesFrom lengths gates rights stacks bases depth frame (limit - n) n r ps words
+    pub rest : localFrom lengths gates rights stacks bases depth frame (limit - from) from r₀ ps₀ words₀ ≡ localFrom lengths gates rights stacks bases depth frame (limit - n) n r ps words
 
-  pub starts : (limit from : ℕ) (r : Registers) (ps : List Pointer) (words : List ℕ) → Moving limit from r ps words from r ps words
+  pub starts : (limit from : ℕ) (r : Registers) (ps : List Pointer) (words : List ℕ) → Local limit from r ps words from r ps words
   starts limit from r ps words = record { same = refl; rest = refl }
 
-  module _ (limit from : ℕ) (r₀ : Registers) (ps₀ : List Pointer) (words₀ : List ℕ) (n : ℕ) (r : Registers) (ps : List Pointer) (words : List ℕ) (l : Moving limit from r₀ ps₀ words₀ n r ps words) where
+  module _ (limit from : ℕ) (r₀ : Registers) (ps₀ : List Pointer) (words₀ : List ℕ) (n : ℕ) (r : Registers) (ps : List Pointer) (words : List ℕ) (l : Local limit from r₀ ps₀ words₀ n r ps words) where
     abbrev whole : Paused
-    whole = movesFrom lengths gates rights stacks bases depth frame (limit - from) from r₀ ps₀ words₀
+    whole = localFrom lengths gates rights stacks bases depth frame (limit - from) from r₀ ps₀ words₀
 
     abbrev after : List ℕ
     after = turnWords lengths gates rights stacks bases words depth frame r ps
@@ -72,20 +72,20 @@ module _ (lengths gates rights stacks bases : List ℕ) (depth : ℕ) (frame : F
     turn = turnOf lengths gates rights stacks bases words depth frame r ps
 
     pub spent : limit ≤ n → whole ≡ paused r ps words n event.Moved
-    unfolding movesFrom
-    spent h = l .rest ∙ ap (λ (k : ℕ). movesFrom lengths gates rights stacks bases depth frame k n r ps words) (let z : limit - n ≡ 0 = omega arith in z)
+    unfolding localFrom
+    spent h = l .rest ∙ ap (λ (k : ℕ). localFrom lengths gates rights stacks bases depth frame k n r ps words) (let z : limit - n ≡ 0 = omega arith in z)
 
     module _ (less : n < limit) where
-      next : whole ≡ onward (movesFrom lengths gates rights stacks bases depth frame (limit - (n + 1)) (n + 1)) n r ps after turn
-      unfolding movesFrom
-      next = l .rest ∙ ap (λ (k : ℕ). movesFrom lengths gates rights stacks bases depth frame k n r ps words) (let z : limit - n ≡ suc (limit - (n + 1)) = omega arith in z)
+      next : whole ≡ onward (localFrom lengths gates rights stacks bases depth frame (limit - (n + 1)) (n + 1)) n r ps after turn
+      unfolding localFrom
+      next = l .rest ∙ ap (λ (k : ℕ). localFrom lengths gates rights stacks bases depth frame k n r ps words) (let z : limit - n ≡ suc (limit - (n + 1)) = omega arith in z)
 
       -- an instruction that moves on
-      pub goes : (s : Registers) (qs : List Pointer) (now : List ℕ) → turn ≡ ok (moved s qs) → now ≡ after → Moving limit from r₀ ps₀ words₀ (n + 1) s qs now
+      pub goes : (s : Registers) (qs : List Pointer) (now : List ℕ) → turn ≡ ok (moved s qs) → now ≡ after → Local limit from r₀ ps₀ words₀ (n + 1) s qs now
       goes s qs now m w =
           record {
             same = ap length w ∙ turn-length words r ps ∙ l .same;
-            rest = next ∙ rw m refl ∙ ap (movesFrom lengths gates rights stacks bases depth frame (limit - (n + 1)) (n + 1) s qs) (sym w);
+            rest = next ∙ rw m refl ∙ ap (localFrom lengths gates rights stacks bases depth frame (limit - (n + 1)) (n + 1) s qs) (sym w);
           }
 
       -- an instruction that does not
@@ -93,7 +93,7 @@ module _ (lengths gates rights stacks bases : List ℕ) (depth : ℕ) (frame : F
       pauses s e h stops = next ∙ ap (onward _ n r ps after) (sym h) ∙ by e stops
         where
           by : (x : Event) → Stops x
-              → onward (movesFrom lengths gates rights stacks bases depth frame (limit - (n + 1)) (n + 1)) n r ps after (eventAnswer s ps x) ≡ paused r ps after n x
+              → onward (localFrom lengths gates rights stacks bases depth frame (limit - (n + 1)) (n + 1)) n r ps after (eventAnswer s ps x) ≡ paused r ps after n x
           by event.Moved o = absurd o
           by (event.Pointed i p) o = absurd o
           by event.Halted o = refl

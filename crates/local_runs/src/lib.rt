@@ -1,7 +1,7 @@
-// Instructions one after the other, up to the first that ends a run or crosses.
+// A local run: instructions inside the executing domain, up to the first that ends a run or crosses.
 ghost use mathlib.Core.Path.{_≡_};
 ghost use Prim.Native.Nat.{_-_};
-ghost use Rattle.moves.specs.Moves.{movesFrom};
+ghost use Rattle.local_runs.specs.LocalRun.{localFrom};
 use instructions::turn::Event;
 use instructions::turn::take_turn;
 use pointers::with_pointer;
@@ -9,7 +9,7 @@ use state::record::Frame;
 use state::record::Registers;
 use words::pointer::Pointer;
 
-// Where the moves pause: before the instruction that the event tells, or at the limit (Moved), after count completed ones.
+// Where a local run pauses: before the instruction that the event tells, or at the limit (Moved), after count completed ones.
 pub struct Pause {
     pub pointers: [Pointer; 8],
     pub registers: Registers,
@@ -17,8 +17,8 @@ pub struct Pause {
     pub count: u16,
 }
 
-// Moves from the n-th instruction of a run on, up to its limit. The frame is the live one: it changes at a crossing only. The registers lie in locals of their own, so that each is kept in a register.
-pub fn make_moves<'a>(
+// Instructions from the one after `from` completed ones on, up to the limit. The frame is the live one: it changes at a crossing only. The registers lie in locals of their own, so that each is kept in a register.
+pub fn run_local<'a>(
     lengths: &'a [u16; 16],
     gates: &'a [u16; 16],
     rights: &'a [u8; 128],
@@ -32,8 +32,8 @@ pub fn make_moves<'a>(
     r: Registers,
     ps: [Pointer; 8],
 ) -> Pause
-    ensures { λ t. ⌜ t ≡ movesFrom (now (lengths .entry)) (now (gates .entry)) (now (rights .entry)) (now (stacks .entry)) (now (bases .entry)) depth frame (limit - from) from r ps (now (words .entry)) .pause ⌝ }
-    ensures { λ t. ⌜ now (words .exit) ≡ movesFrom (now (lengths .entry)) (now (gates .entry)) (now (rights .entry)) (now (stacks .entry)) (now (bases .entry)) depth frame (limit - from) from r ps (now (words .entry)) .words ⌝ }
+    ensures { λ t. ⌜ t ≡ localFrom (now (lengths .entry)) (now (gates .entry)) (now (rights .entry)) (now (stacks .entry)) (now (bases .entry)) depth frame (limit - from) from r ps (now (words .entry)) .pause ⌝ }
+    ensures { λ t. ⌜ now (words .exit) ≡ localFrom (now (lengths .entry)) (now (gates .entry)) (now (rights .entry)) (now (stacks .entry)) (now (bases .entry)) depth frame (limit - from) from r ps (now (words .entry)) .words ⌝ }
 {
     let mut a = r.a;
     let mut word = r.word;

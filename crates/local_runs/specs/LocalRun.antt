@@ -1,4 +1,4 @@
--- A run as the loop makes it: instructions that are no crossing, up to the first that ends a run or crosses.
+-- A local run: instructions inside the executing domain, up to the first that ends a run or crosses.
 use Prim.Native.Nat.{ℕ, zero, suc, _+_, _-_}
 use mathlib.Core.Bool.{Bool, true, false}
 use mathlib.Core.List.{List}
@@ -9,9 +9,9 @@ use Rattle.state.specs.declared.record.Registers.{Registers}
 use Rattle.instructions.specs.declared.turn.Event.{Event}
 use Rattle.instructions.specs.declared.turn.Event.the-variants as event
 use Rattle.instructions.specs.Turn.{Turned, ended, moved, entering, leaving, turnOf, turnWords}
-use Rattle.moves.specs.declared.Pause.{Pause}
+use Rattle.local_runs.specs.declared.Pause.{Pause}
 
--- where the moves pause: before the instruction that the event tells, after count completed ones; Moved where the limit is reached
+-- where a local run pauses: before the instruction that the event tells, after count completed ones; Moved where the limit is reached
 pub record Paused : Type 0 where
   pub pause : Pause
   pub words : List ℕ
@@ -27,10 +27,10 @@ onward go n r pointers next (ok (moved s ps)) = go s ps next
 onward go n r pointers next (ok (entering p)) = paused r pointers next n (event.Entering p)
 onward go n r pointers next (ok (leaving p)) = paused r pointers next n (event.Leaving p)
 
--- at most k moves more, n completed so far
-unfoldable pub movesFrom : List ℕ → List ℕ → List ℕ → List ℕ → List ℕ → ℕ → Frame → ℕ → ℕ → Registers → List Pointer → List ℕ → Paused
-movesFrom lengths gates rights stacks bases depth frame zero n r pointers words = paused r pointers words n event.Moved
-movesFrom lengths gates rights stacks bases depth frame (suc k) n r pointers words =
-    onward (movesFrom lengths gates rights stacks bases depth frame k (n + 1)) n r pointers
+-- at most k instructions more, n completed so far
+unfoldable pub localFrom : List ℕ → List ℕ → List ℕ → List ℕ → List ℕ → ℕ → Frame → ℕ → ℕ → Registers → List Pointer → List ℕ → Paused
+localFrom lengths gates rights stacks bases depth frame zero n r pointers words = paused r pointers words n event.Moved
+localFrom lengths gates rights stacks bases depth frame (suc k) n r pointers words =
+    onward (localFrom lengths gates rights stacks bases depth frame k (n + 1)) n r pointers
     (turnWords lengths gates rights stacks bases words depth frame r pointers)
     (turnOf lengths gates rights stacks bases words depth frame r pointers)

@@ -1,4 +1,4 @@
--- `moves::make_moves` meets its contract.
+-- `local_runs::run_local` meets its contract.
 use Prim.Native.Nat.{ℕ, _-_, _≤_}
 use native.Mathlib.Omega.{arith}
 use mathlib.Core.Path.{_≡_, refl, sym, ap, _∙_}
@@ -12,10 +12,10 @@ use Rattle.words.specs.declared.pointer.Pointer.{Pointer}
 use Rattle.state.specs.declared.record.Registers.{Registers}
 use Rattle.instructions.specs.declared.turn.Event.the-variants as event
 use Rattle.instructions.specs.Turn.{moved, eventAnswer}
-use Rattle.moves.specs.Moves.{Paused}
-use Rattle.moves.proofs.Moving.{Moving, starts, spent, goes, pauses, stops, turn-length}
-use Rattle.moves.proofs.make_moves.Statement.{statement}
-use Rattle.moves.proofs.make_moves.Tie as tie
+use Rattle.local_runs.specs.LocalRun.{Paused}
+use Rattle.local_runs.proofs.LocalRuns.{Local, starts, spent, goes, pauses, stops, turn-length}
+use Rattle.local_runs.proofs.run_local.Statement.{statement}
+use Rattle.local_runs.proofs.run_local.Tie as tie
 
 -- the registers, which lie apart
 abbrev held : ℕ → ℕ → ℕ → ℕ → Registers
@@ -23,7 +23,7 @@ held a word segment domain = record { a = a; word = word; segment = segment; dom
 
 abbrev Inv-loop : tie.InvT-loop
 Inv-loop lengths gates rights stacks bases words₀ depth frame from limit a₀ word₀ segment₀ domain₀ pointers₀ n₀ words a word segment domain pointers n =
-    Moving lengths gates rights stacks bases depth frame limit from (held a₀ word₀ segment₀ domain₀) pointers₀ words₀ n (held a word segment domain) pointers words
+    Local lengths gates rights stacks bases depth frame limit from (held a₀ word₀ segment₀ domain₀) pointers₀ words₀ n (held a word segment domain) pointers words
 
 abbrev μ-loop : tie.MeasureT-loop
 μ-loop lengths gates rights stacks bases words₀ depth frame from limit a₀ word₀ segment₀ domain₀ pointers₀ n₀ words a word segment domain pointers n =
@@ -93,8 +93,8 @@ same-length-2 c = c .before .loop .inv .same
 returns-2 : tie.Need-returns-2 Inv-loop μ-loop
 returns-2 c = let e = spent _ _ _ _ _ _ _ _ _ _ _ _ _ _ _ _ (c .before .loop .inv) (c .loop-test .left) in (sym (ap (λ (x : Paused). x .pause) e), sym (ap (λ (x : Paused). x .words) e))
 
-pub make-moves-spec : {M : Type 1} → statement M
-make-moves-spec =
+pub run-local-spec : {M : Type 1} → statement M
+run-local-spec =
     tie.close
     (tie.spec
     Inv-loop
