@@ -1,3 +1,3 @@
 pub mod Plan
 pub mod Instruction
-pub mod Turn
+pub mod Cycle

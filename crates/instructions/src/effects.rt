@@ -6,9 +6,9 @@ ghost use Rattle.instructions.specs.Plan.{store};
 ghost use Rattle.transfers.specs.Transfer.{callWay};
 ghost use Rattle.instructions.specs.Instruction.{operateOf};
 ghost use Rattle.pointers.specs.Stack.{stackOf};
-ghost use Rattle.instructions.specs.Turn.{Turns, loaded, called, settled, registersAt};
-use crate::turn::Event;
-use crate::turn::Turn;
+ghost use Rattle.instructions.specs.Cycle.{Cycles, loaded, called, settled, registersAt};
+use crate::cycle::Cycle;
+use crate::cycle::Event;
 use memory::WordAnswer;
 use memory::read;
 use memory::write;
@@ -22,7 +22,7 @@ use words::arithmetic::sum;
 use words::pointer::Pointer;
 
 // On to the next word with another A.
-pub fn onward(r: Registers, a: u32, event: Event) -> Turn
+pub fn onward(r: Registers, a: u32, event: Event) -> Cycle
     requires { ⌜ r .word < 65535 ⌝ }
     ensures { λ t. ⌜ t ≡ record { registers = registersAt r a (r .segment) (r .word + 1); event = event } ⌝ }
 {
@@ -33,11 +33,11 @@ pub fn onward(r: Registers, a: u32, event: Event) -> Turn
         segment: r.segment,
         domain: r.domain,
     };
-    Turn { registers, event }
+    Cycle { registers, event }
 }
 
 // On to a place.
-pub fn go_to(r: Registers, p: Pointer, event: Event) -> Turn
+pub fn go_to(r: Registers, p: Pointer, event: Event) -> Cycle
     ensures { λ t. ⌜ t ≡ record { registers = registersAt r (r .a) (p .segment) (p .word); event = event } ⌝ }
 {
     let registers = Registers {
@@ -46,11 +46,11 @@ pub fn go_to(r: Registers, p: Pointer, event: Event) -> Turn
         segment: p.segment,
         domain: r.domain,
     };
-    Turn { registers, event }
+    Cycle { registers, event }
 }
 
 // Nothing moves.
-pub fn stay(r: Registers, event: Event) -> Turn
+pub fn stay(r: Registers, event: Event) -> Cycle
     ensures { λ t. ⌜ t ≡ record { registers = r; event = event } ⌝ }
 {
     let registers = Registers {
@@ -59,7 +59,7 @@ pub fn stay(r: Registers, event: Event) -> Turn
         segment: r.segment,
         domain: r.domain,
     };
-    Turn { registers, event }
+    Cycle { registers, event }
 }
 
 // What LOAD, ADD and SUB make of A and a word.
@@ -86,9 +86,9 @@ pub fn load<'a>(
     r: Registers,
     opcode: u8,
     p: Pointer,
-) -> Turn
+) -> Cycle
     requires { ⌜ r .word < 65535 ⌝ }
-    ensures { λ t. ⌜ Turns t (λ ps. loaded r ps opcode (readOf (now (lengths .entry)) (now (rights .entry)) (now (bases .entry)) (now (words .entry)) (r .domain) depth frame p)) ⌝ }
+    ensures { λ t. ⌜ Cycles t (λ ps. loaded r ps opcode (readOf (now (lengths .entry)) (now (rights .entry)) (now (bases .entry)) (now (words .entry)) (r .domain) depth frame p)) ⌝ }
 {
     match read(lengths, rights, bases, words, r.domain, depth, frame, p) {
         WordAnswer::Refused(n) => stay(r, Event::Faulted(n)),
@@ -107,9 +107,9 @@ pub fn save<'a>(
     r: Registers,
     p: Pointer,
     value: u32,
-) -> Turn
+) -> Cycle
     requires { ⌜ r .word < 65535 ⌝ }
-    ensures { λ t. ⌜ Turns t (λ ps. settled (now (lengths .entry)) (now (rights .entry)) (now (bases .entry)) (now (words .entry)) depth frame r ps (store p value)) ⌝ }
+    ensures { λ t. ⌜ Cycles t (λ ps. settled (now (lengths .entry)) (now (rights .entry)) (now (bases .entry)) (now (words .entry)) depth frame r ps (store p value)) ⌝ }
     ensures { λ t. ⌜ now (words .exit) ≡ writtenOf (now (lengths .entry)) (now (rights .entry)) (now (bases .entry)) (now (words .entry)) (r .domain) depth frame p value ⌝ }
 {
     let n = write(
@@ -138,8 +138,8 @@ pub fn call<'a>(
     depth: u8,
     r: Registers,
     p: Pointer,
-) -> Turn
-    ensures { λ t. ⌜ Turns t (λ ps. called r ps (stackOf (now (stacks .entry)) (r .domain)) p (callWay (now (lengths .entry)) (now (gates .entry)) (now (rights .entry)) (r .domain) depth p)) ⌝ }
+) -> Cycle
+    ensures { λ t. ⌜ Cycles t (λ ps. called r ps (stackOf (now (stacks .entry)) (r .domain)) p (callWay (now (lengths .entry)) (now (gates .entry)) (now (rights .entry)) (r .domain) depth p)) ⌝ }
 {
     match call_way(lengths, gates, rights, r.domain, depth, p) {
         CallAnswer::Refused(n) => stay(r, Event::Faulted(n)),

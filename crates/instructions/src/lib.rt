@@ -1,3 +1,3 @@
 // The instructions: everything of an instruction but a crossing.
+pub mod cycle;
 mod effects;
-pub mod turn;

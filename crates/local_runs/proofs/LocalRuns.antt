@@ -10,11 +10,11 @@ use Rattle.state.specs.declared.record.Frame.{Frame}
 use Rattle.state.specs.declared.record.Registers.{Registers}
 use Rattle.references.specs.Reference.{referenceOf}
 use Rattle.references.specs.declared.flag.Access.the-variants as access
-use Rattle.instructions.specs.declared.turn.Event.{Event}
-use Rattle.instructions.specs.declared.turn.Event.the-variants as event
+use Rattle.instructions.specs.declared.cycle.Event.{Event}
+use Rattle.instructions.specs.declared.cycle.Event.the-variants as event
 use Rattle.memory.specs.Reader.{stored, writtenOf}
 use Rattle.instructions.specs.Plan.{Plan, halt, move, store, enter, leave}
-use Rattle.instructions.specs.Turn.{Turned, moved, eventAnswer, settledWords, planned, turnOf, turnWords}
+use Rattle.instructions.specs.Cycle.{Progress, moved, eventAnswer, settledWords, planned, cycleOf, cycleWords}
 use Rattle.local_runs.specs.LocalRun.{Paused, paused, onward, localFrom}
 
 -- an event at which a local run pauses
@@ -49,9 +49,9 @@ module _ (lengths gates rights stacks bases : List ℕ) (depth : ℕ) (frame : F
   settled-length words r pointers (ok (leave p)) = refl
 
   -- an instruction keeps the length of the memory
-  pub turn-length : (words : List ℕ) (r : Registers) (pointers : List Pointer) → length (turnWords lengths gates rights stacks bases words depth frame r pointers) ≡ length words
-  unfolding turnWords
-  turn-length words r pointers = settled-length words r pointers (planned lengths gates rights stacks bases words depth frame r pointers)
+  pub cycle-length : (words : List ℕ) (r : Registers) (pointers : List Pointer) → length (cycleWords lengths gates rights stacks bases words depth frame r pointers) ≡ length words
+  unfolding cycleWords
+  cycle-length words r pointers = settled-length words r pointers (planned lengths gates rights stacks bases words depth frame r pointers)
 
   -- a local run has come to registers, pointers and words after n instructions
   pub record Local (limit from : ℕ) (r₀ : Registers) (ps₀ : List Pointer) (words₀ : List ℕ) (n : ℕ) (r : Registers) (ps : List Pointer) (words : List ℕ) : Type 0 where
@@ -66,30 +66,30 @@ module _ (lengths gates rights stacks bases : List ℕ) (depth : ℕ) (frame : F
     whole = localFrom lengths gates rights stacks bases depth frame (limit - from) from r₀ ps₀ words₀
 
     abbrev after : List ℕ
-    after = turnWords lengths gates rights stacks bases words depth frame r ps
+    after = cycleWords lengths gates rights stacks bases words depth frame r ps
 
-    abbrev turn : Answer Turned
-    turn = turnOf lengths gates rights stacks bases words depth frame r ps
+    abbrev cycle : Answer Progress
+    cycle = cycleOf lengths gates rights stacks bases words depth frame r ps
 
     pub spent : limit ≤ n → whole ≡ paused r ps words n event.Moved
     unfolding localFrom
     spent h = l .rest ∙ ap (λ (k : ℕ). localFrom lengths gates rights stacks bases depth frame k n r ps words) (let z : limit - n ≡ 0 = omega arith in z)
 
     module _ (less : n < limit) where
-      next : whole ≡ onward (localFrom lengths gates rights stacks bases depth frame (limit - (n + 1)) (n + 1)) n r ps after turn
+      next : whole ≡ onward (localFrom lengths gates rights stacks bases depth frame (limit - (n + 1)) (n + 1)) n r ps after cycle
       unfolding localFrom
       next = l .rest ∙ ap (λ (k : ℕ). localFrom lengths gates rights stacks bases depth frame k n r ps words) (let z : limit - n ≡ suc (limit - (n + 1)) = omega arith in z)
 
       -- an instruction that moves on
-      pub goes : (s : Registers) (qs : List Pointer) (now : List ℕ) → turn ≡ ok (moved s qs) → now ≡ after → Local limit from r₀ ps₀ words₀ (n + 1) s qs now
+      pub goes : (s : Registers) (qs : List Pointer) (now : List ℕ) → cycle ≡ ok (moved s qs) → now ≡ after → Local limit from r₀ ps₀ words₀ (n + 1) s qs now
       goes s qs now m w =
           record {
-            same = ap length w ∙ turn-length words r ps ∙ l .same;
+            same = ap length w ∙ cycle-length words r ps ∙ l .same;
             rest = next ∙ rw m refl ∙ ap (localFrom lengths gates rights stacks bases depth frame (limit - (n + 1)) (n + 1) s qs) (sym w);
           }
 
       -- an instruction that does not
-      pub pauses : (s : Registers) (e : Event) → eventAnswer s ps e ≡ turn → Stops e → whole ≡ paused r ps after n e
+      pub pauses : (s : Registers) (e : Event) → eventAnswer s ps e ≡ cycle → Stops e → whole ≡ paused r ps after n e
       pauses s e h stops = next ∙ ap (onward _ n r ps after) (sym h) ∙ by e stops
         where
           by : (x : Event) → Stops x

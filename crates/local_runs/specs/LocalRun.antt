@@ -6,9 +6,9 @@ use Rattle.words.specs.Answer.{Answer, refuse, ok}
 use Rattle.words.specs.declared.pointer.Pointer.{Pointer}
 use Rattle.state.specs.declared.record.Frame.{Frame}
 use Rattle.state.specs.declared.record.Registers.{Registers}
-use Rattle.instructions.specs.declared.turn.Event.{Event}
-use Rattle.instructions.specs.declared.turn.Event.the-variants as event
-use Rattle.instructions.specs.Turn.{Turned, ended, moved, entering, leaving, turnOf, turnWords}
+use Rattle.instructions.specs.declared.cycle.Event.{Event}
+use Rattle.instructions.specs.declared.cycle.Event.the-variants as event
+use Rattle.instructions.specs.Cycle.{Progress, ended, moved, entering, leaving, cycleOf, cycleWords}
 use Rattle.local_runs.specs.declared.Pause.{Pause}
 
 -- where a local run pauses: before the instruction that the event tells, after count completed ones; Moved where the limit is reached
@@ -20,7 +20,7 @@ abbrev pub paused : Registers → List Pointer → List ℕ → ℕ → Event �
 paused r pointers words n e = record { pause = record { pointers = pointers; registers = r; event = e; count = n }; words = words }
 
 -- after an instruction: go says how it goes on
-abbrev pub onward : (Registers → List Pointer → List ℕ → Paused) → ℕ → Registers → List Pointer → List ℕ → Answer Turned → Paused
+abbrev pub onward : (Registers → List Pointer → List ℕ → Paused) → ℕ → Registers → List Pointer → List ℕ → Answer Progress → Paused
 onward go n r pointers next (refuse f) = paused r pointers next n (event.Faulted f)
 onward go n r pointers next (ok ended) = paused r pointers next n event.Halted
 onward go n r pointers next (ok (moved s ps)) = go s ps next
@@ -32,5 +32,5 @@ unfoldable pub localFrom : List ℕ → List ℕ → List ℕ → List ℕ → L
 localFrom lengths gates rights stacks bases depth frame zero n r pointers words = paused r pointers words n event.Moved
 localFrom lengths gates rights stacks bases depth frame (suc k) n r pointers words =
     onward (localFrom lengths gates rights stacks bases depth frame k (n + 1)) n r pointers
-    (turnWords lengths gates rights stacks bases words depth frame r pointers)
-    (turnOf lengths gates rights stacks bases words depth frame r pointers)
+    (cycleWords lengths gates rights stacks bases words depth frame r pointers)
+    (cycleOf lengths gates rights stacks bases words depth frame r pointers)

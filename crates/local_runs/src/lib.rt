@@ -2,8 +2,8 @@
 ghost use mathlib.Core.Path.{_≡_};
 ghost use Prim.Native.Nat.{_-_};
 ghost use Rattle.local_runs.specs.LocalRun.{localFrom};
-use instructions::turn::Event;
-use instructions::turn::take_turn;
+use instructions::cycle::Event;
+use instructions::cycle::run_cycle;
 use pointers::with_pointer;
 use state::record::Frame;
 use state::record::Registers;
@@ -42,7 +42,7 @@ pub fn run_local<'a>(
     let mut pointers = ps;
     let mut n = from;
     while n < limit {
-        let t = take_turn(
+        let t = run_cycle(
             lengths,
             gates,
             rights,

@@ -12,18 +12,18 @@ use Rattle.state.specs.declared.record.Frame.{Frame}
 use Rattle.state.specs.declared.record.Registers.{Registers}
 use Rattle.references.specs.declared.flag.Access.the-variants as access
 use Rattle.references.specs.Reference.{verdictOf}
-use Rattle.instructions.specs.declared.turn.Event.{Event}
-use Rattle.instructions.specs.declared.turn.Event.the-variants as event
+use Rattle.instructions.specs.declared.cycle.Event.{Event}
+use Rattle.instructions.specs.declared.cycle.Event.the-variants as event
 use Rattle.instructions.specs.Plan.{Plan, halt, move, store, enter, leave}
 use Rattle.memory.specs.Reader.{readOf, fetchOf}
-use Rattle.instructions.specs.Turn.{Turned, ended, moved, entering, leaving, settled, planned, turnOf, turnWords}
+use Rattle.instructions.specs.Cycle.{Progress, ended, moved, entering, leaving, settled, planned, cycleOf, cycleWords}
 use Rattle.crossings.specs.Crossing.{Changes, enterParts, leaveCheck, leaveParts}
 use Rattle.arguments.specs.ArgumentList.{frameOf}
 use Rattle.state.specs.Record.{noPointer}
 use Rattle.local_runs.specs.LocalRun.{Paused, paused, onward, localFrom}
 use Rattle.runs.specs.Rest.{Countable, Rest, ends, goes, restAfter, restOf}
 use Rattle.runs.proofs.Free.{Free, plan-free}
-use Rattle.local_runs.proofs.LocalRuns.{turn-length}
+use Rattle.local_runs.proofs.LocalRuns.{cycle-length}
 
 -- an event that ends a local run before the limit, after low instructions at least, and finds a frame free where it enters
 abbrev pub Fine : ℕ → ℕ → ℕ → ℕ → Event → Type 0
@@ -42,19 +42,19 @@ fine-countable depth low limit n h (event.Faulted k) f = tt
 fine-countable depth low limit n h (event.Entering p) f = omega (arith, f .0)
 fine-countable depth low limit n h (event.Leaving p) f = omega (arith, f .0)
 
-abbrev FreeTurn : ℕ → Answer Turned → Type 0
-FreeTurn depth (refuse n) = Unit {0}
-FreeTurn depth (ok ended) = Unit {0}
-FreeTurn depth (ok (moved r ps)) = Unit {0}
-FreeTurn depth (ok (entering p)) = depth < 8
-FreeTurn depth (ok (leaving p)) = Unit {0}
+abbrev FreeCycle : ℕ → Answer Progress → Type 0
+FreeCycle depth (refuse n) = Unit {0}
+FreeCycle depth (ok ended) = Unit {0}
+FreeCycle depth (ok (moved r ps)) = Unit {0}
+FreeCycle depth (ok (entering p)) = depth < 8
+FreeCycle depth (ok (leaving p)) = Unit {0}
 
-either-free : (depth : ℕ) (t : Bool) (r : Registers) (ps : List Pointer) (n : ℕ) → FreeTurn depth (if t then ok (moved r ps) else refuse n)
+either-free : (depth : ℕ) (t : Bool) (r : Registers) (ps : List Pointer) (n : ℕ) → FreeCycle depth (if t then ok (moved r ps) else refuse n)
 either-free depth true r ps n = tt
 either-free depth false r ps n = tt
 
 module _ (lengths gates rights stacks bases : List ℕ) (depth : ℕ) (frame : Frame) where
-  settled-free : (words : List ℕ) (r : Registers) (ps : List Pointer) (plan : Answer Plan) → Free depth plan → FreeTurn depth (plan >>= settled lengths rights bases words depth frame r ps)
+  settled-free : (words : List ℕ) (r : Registers) (ps : List Pointer) (plan : Answer Plan) → Free depth plan → FreeCycle depth (plan >>= settled lengths rights bases words depth frame r ps)
   settled-free words r ps (refuse n) f = tt
   settled-free words r ps (ok halt) f = tt
   settled-free words r ps (ok (move a s w qs)) f = tt
@@ -62,9 +62,9 @@ module _ (lengths gates rights stacks bases : List ℕ) (depth : ℕ) (frame : F
   settled-free words r ps (ok (enter p)) f = f
   settled-free words r ps (ok (leave p)) f = tt
 
-  turn-free : (words : List ℕ) (r : Registers) (ps : List Pointer) → FreeTurn depth (turnOf lengths gates rights stacks bases words depth frame r ps)
-  unfolding turnOf
-  turn-free words r ps =
+  cycle-free : (words : List ℕ) (r : Registers) (ps : List Pointer) → FreeCycle depth (cycleOf lengths gates rights stacks bases words depth frame r ps)
+  unfolding cycleOf
+  cycle-free words r ps =
       settled-free words r ps (planned lengths gates rights stacks bases words depth frame r ps)
       (plan-free depth lengths gates rights stacks r ps (readOf lengths rights bases words (r .domain) depth frame) (fetchOf lengths rights bases words (r .domain) (r .segment) (r .word)))
 
@@ -75,11 +75,11 @@ module _ (lengths gates rights stacks bases : List ℕ) (depth : ℕ) (frame : F
   unfolding localFrom
   local-fine low limit zero n h e r ps words = tt
   local-fine low limit (suc k) n h e r ps words =
-      by (local-fine low limit k (n + 1) (omega arith) (omega arith)) (turnOf lengths gates rights stacks bases words depth frame r ps) (turn-free words r ps)
+      by (local-fine low limit k (n + 1) (omega arith) (omega arith)) (cycleOf lengths gates rights stacks bases words depth frame r ps) (cycle-free words r ps)
     where
       by : ((s : Registers) (qs : List Pointer) (v : List ℕ) → Fine depth low limit (from k (n + 1) s qs v .pause .count) (from k (n + 1) s qs v .pause .event))
-          → (t : Answer Turned) → FreeTurn depth t
-          → let p = onward (from k (n + 1)) n r ps (turnWords lengths gates rights stacks bases words depth frame r ps) t in Fine depth low limit (p .pause .count) (p .pause .event)
+          → (t : Answer Progress) → FreeCycle depth t
+          → let p = onward (from k (n + 1)) n r ps (cycleWords lengths gates rights stacks bases words depth frame r ps) t in Fine depth low limit (p .pause .count) (p .pause .event)
       by more (refuse f) free = tt
       by more (ok ended) free = omega arith
       by more (ok (moved s qs)) free = more s qs _
@@ -90,10 +90,10 @@ module _ (lengths gates rights stacks bases : List ℕ) (depth : ℕ) (frame : F
   unfolding localFrom
   local-length zero n r ps words = refl
   local-length (suc k) n r ps words =
-      by (local-length k (n + 1)) (turnOf lengths gates rights stacks bases words depth frame r ps) (turnWords lengths gates rights stacks bases words depth frame r ps) (turn-length lengths gates rights stacks bases depth frame words r ps)
+      by (local-length k (n + 1)) (cycleOf lengths gates rights stacks bases words depth frame r ps) (cycleWords lengths gates rights stacks bases words depth frame r ps) (cycle-length lengths gates rights stacks bases depth frame words r ps)
     where
       by : ((s : Registers) (qs : List Pointer) (v : List ℕ) → length (from k (n + 1) s qs v .words) ≡ length v)
-          → (t : Answer Turned) (next : List ℕ) → length next ≡ length words → length (onward (from k (n + 1)) n r ps next t .words) ≡ length words
+          → (t : Answer Progress) (next : List ℕ) → length next ≡ length words → length (onward (from k (n + 1)) n r ps next t .words) ≡ length words
       by more (refuse f) next h = h
       by more (ok ended) next h = h
       by more (ok (moved s qs)) next h = more s qs next ∙ h

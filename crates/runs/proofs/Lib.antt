@@ -1,5 +1,5 @@
 pub mod Free
 pub mod Bounds
-pub mod Turning
+pub mod Cycling
 pub mod Loops
 pub mod Judging

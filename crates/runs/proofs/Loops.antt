@@ -19,7 +19,7 @@ use Rattle.runs.specs.declared.rest.Crossing.{Crossing}
 use Rattle.runs.specs.Run.{Ran, ran, crossed, runFrom}
 use Rattle.local_runs.specs.LocalRun.{Paused, localFrom}
 use Rattle.runs.specs.Rest.{endAnswer, Rest, restBy, restAnswer, restOf, Countable}
-use Rattle.runs.proofs.Turning.{withParts, crossedTo, continued, localAt, restOfLocal, run-resumes}
+use Rattle.runs.proofs.Cycling.{withParts, crossedTo, continued, localAt, restOfLocal, run-resumes}
 use Rattle.runs.proofs.Bounds.{Fine, fine-countable, local-fine, local-length, Room, rest-room}
 
 -- a run has come to a machine and its words after n instructions

@@ -9,8 +9,8 @@ use Rattle.state.specs.declared.record.Frame.{Frame}
 use Rattle.state.specs.declared.record.Registers.{Registers}
 use Rattle.state.specs.declared.record.Machine.{Machine}
 use Rattle.state.specs.Record.{noPointer}
-use Rattle.instructions.specs.declared.turn.Event.{Event}
-use Rattle.instructions.specs.declared.turn.Event.the-variants as event
+use Rattle.instructions.specs.declared.cycle.Event.{Event}
+use Rattle.instructions.specs.declared.cycle.Event.the-variants as event
 use Rattle.memory.specs.Reader.{readOf}
 use Rattle.arguments.specs.ArgumentList.{frameOf}
 use Rattle.crossings.specs.Crossing.{Changes, enterParts, leaveCheck, leaveParts}

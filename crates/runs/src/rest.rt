@@ -7,7 +7,7 @@ use crate::outcome::End;
 use crossings::crossing::Crossed;
 use crossings::crossing::enter;
 use crossings::crossing::leave;
-use instructions::turn::Event;
+use instructions::cycle::Event;
 use state::record::Frame;
 use state::record::Registers;
 use words::pointer::Pointer;

@@ -10,10 +10,10 @@ use lib.ListN.{length}
 use Rattle.words.specs.Answer.{ok}
 use Rattle.words.specs.declared.pointer.Pointer.{Pointer}
 use Rattle.state.specs.declared.record.Registers.{Registers}
-use Rattle.instructions.specs.declared.turn.Event.the-variants as event
-use Rattle.instructions.specs.Turn.{moved, eventAnswer}
+use Rattle.instructions.specs.declared.cycle.Event.the-variants as event
+use Rattle.instructions.specs.Cycle.{moved, eventAnswer}
 use Rattle.local_runs.specs.LocalRun.{Paused}
-use Rattle.local_runs.proofs.LocalRuns.{Local, starts, spent, goes, pauses, stops, turn-length}
+use Rattle.local_runs.proofs.LocalRuns.{Local, starts, spent, goes, pauses, stops, cycle-length}
 use Rattle.local_runs.proofs.run_local.Statement.{statement}
 use Rattle.local_runs.proofs.run_local.Tie as tie
 
@@ -36,8 +36,8 @@ another k h o = ⊎-elim (λ e. omega (arith, e)) (⊎-elim (λ e. omega (arith,
 loop-holds : tie.Need-loop-holds Inv-loop μ-loop
 loop-holds c = starts _ _ _ _ _ _ _ _ _ _ _ _
 
-take-turn-requires : tie.Need-take-turn-requires Inv-loop μ-loop
-take-turn-requires c κs = search needs
+run-cycle-requires : tie.Need-run-cycle-requires Inv-loop μ-loop
+run-cycle-requires c κs = search needs
 
 enum-told : tie.Need-enum-told Inv-loop μ-loop
 enum-told c = search needs
@@ -52,7 +52,7 @@ loop-again : tie.Need-loop-again Inv-loop μ-loop
 loop-again c =
     let t = c .before .before .before .before in
     let l = t .before .before in
-    goes _ _ _ _ _ _ _ _ _ _ _ _ _ _ _ _ (l .before .loop .inv) (l .loop-test .taken) _ _ _ (sym (t .take-turn .ensures .0) ∙ ap (eventAnswer _ _) (c .enum-told .given .1)) (t .take-turn .ensures .1)
+    goes _ _ _ _ _ _ _ _ _ _ _ _ _ _ _ _ (l .before .loop .inv) (l .loop-test .taken) _ _ _ (sym (t .run-cycle .ensures .0) ∙ ap (eventAnswer _ _) (c .enum-told .given .1)) (t .run-cycle .ensures .1)
 
 enum-known-event : tie.Need-enum-known-event Inv-loop μ-loop
 enum-known-event c = search needs
@@ -70,22 +70,22 @@ loop-again-2 : tie.Need-loop-again-2 Inv-loop μ-loop
 loop-again-2 c =
     let t = c .before .before .before .before .before .before in
     let l = t .before .before in
-    goes _ _ _ _ _ _ _ _ _ _ _ _ _ _ _ _ (l .before .loop .inv) (l .loop-test .taken) _ _ _ (sym (t .take-turn .ensures .0) ∙ ap (eventAnswer _ _) (c .before .before .event .given .1) ∙ ap (λ (ps : List Pointer). ok (moved (t .take-turn .result .registers) ps)) (sym (c .with-pointer .ensures))) (t .take-turn .ensures .1)
+    goes _ _ _ _ _ _ _ _ _ _ _ _ _ _ _ _ (l .before .loop .inv) (l .loop-test .taken) _ _ _ (sym (t .run-cycle .ensures .0) ∙ ap (eventAnswer _ _) (c .before .before .event .given .1) ∙ ap (λ (ps : List Pointer). ok (moved (t .run-cycle .result .registers) ps)) (sym (c .with-pointer .ensures))) (t .run-cycle .ensures .1)
 
 same-length : tie.Need-same-length Inv-loop μ-loop
 same-length c =
     let t = c .before .before .before in
     let l = t .before .before in
-    ap length (t .take-turn .ensures .1) ∙ turn-length _ _ _ _ _ _ _ _ _ _ ∙ l .before .loop .inv .same
+    ap length (t .run-cycle .ensures .1) ∙ cycle-length _ _ _ _ _ _ _ _ _ _ ∙ l .before .loop .inv .same
 
 returns : tie.Need-returns Inv-loop μ-loop
 returns c =
     let t = c .before .before .before in
     let l = t .before .before in
-    let x = t .take-turn .result .event in
+    let x = t .run-cycle .result .event in
     let s = stops x (λ m. another 0 (omega arith) (rw m at (c .match .keys3))) (λ i p m. another 1 (omega arith) (rw m at (c .match .keys3))) in
-    let e = pauses _ _ _ _ _ _ _ _ _ _ _ _ _ _ _ _ (l .before .loop .inv) (l .loop-test .taken) _ x (t .take-turn .ensures .0) s in
-    (sym (ap (λ (q : Paused). q .pause) e), t .take-turn .ensures .1 ∙ sym (ap (λ (q : Paused). q .words) e))
+    let e = pauses _ _ _ _ _ _ _ _ _ _ _ _ _ _ _ _ (l .before .loop .inv) (l .loop-test .taken) _ x (t .run-cycle .ensures .0) s in
+    (sym (ap (λ (q : Paused). q .pause) e), t .run-cycle .ensures .1 ∙ sym (ap (λ (q : Paused). q .words) e))
 
 same-length-2 : tie.Need-same-length-2 Inv-loop μ-loop
 same-length-2 c = c .before .loop .inv .same
@@ -100,7 +100,7 @@ run-local-spec =
     Inv-loop
     μ-loop
     loop-holds
-    take-turn-requires
+    run-cycle-requires
     enum-told
     add-n
     loop-less

@@ -1,7 +1,7 @@
 -- `instructions::effects::call` meets its contract.
 use borrow.Author.Needs.{needs}
 use mathlib.Core.Path.{_≡_, refl, sym, ap, _∙_}
-use Rattle.instructions.specs.Turn.{turnAnswer}
+use Rattle.instructions.specs.Cycle.{cycleAnswer}
 use Rattle.instructions.proofs.effects.call.Statement.{statement}
 use Rattle.instructions.proofs.effects.call.Tie as tie
 
@@ -32,18 +32,18 @@ go-to-requires c κs = search needs
 returns : tie.Need-returns
 returns c ps =
     let k = c .before .before in
-    ap (turnAnswer ps) (c .stay .ensures) ∙ simp (← k .before .before .call-way .ensures, k .n .given .1)
+    ap (cycleAnswer ps) (c .stay .ensures) ∙ simp (← k .before .before .call-way .ensures, k .n .given .1)
 
 returns-2 : tie.Need-returns-2
 returns-2 c ps =
     let k = c .before in
-    ap (turnAnswer ps) (c .stay2 .ensures) ∙ simp (← k .before .before .call-way .ensures, k .enum-told .given .1)
+    ap (cycleAnswer ps) (c .stay2 .ensures) ∙ simp (← k .before .before .call-way .ensures, k .enum-told .given .1)
 
 returns-3 : tie.Need-returns-3
 returns-3 c ps =
     let b = c .before in
     let k = b .before in
-    ap (turnAnswer ps) (c .go-to .ensures) ∙ simp (← k .before .before .call-way .ensures, k .enum-told2 .given .1, b .stack-of .ensures)
+    ap (cycleAnswer ps) (c .go-to .ensures) ∙ simp (← k .before .before .call-way .ensures, k .enum-told2 .given .1, b .stack-of .ensures)
 
 pub call-spec : {M : Type 1} → statement M
 call-spec =

@@ -1,7 +1,7 @@
 -- `instructions::effects::load` meets its contract.
 use borrow.Author.Needs.{needs}
 use mathlib.Core.Path.{_≡_, refl, sym, ap, _∙_}
-use Rattle.instructions.specs.Turn.{turnAnswer}
+use Rattle.instructions.specs.Cycle.{cycleAnswer}
 use Rattle.instructions.proofs.effects.load.Statement.{statement}
 use Rattle.instructions.proofs.effects.load.Tie as tie
 
@@ -26,13 +26,13 @@ onward-requires c κs = search needs
 returns : tie.Need-returns
 returns c ps =
     let k = c .before .before in
-    ap (turnAnswer ps) (c .stay .ensures) ∙ simp (← k .before .before .read .ensures, k .n .given .1)
+    ap (cycleAnswer ps) (c .stay .ensures) ∙ simp (← k .before .before .read .ensures, k .n .given .1)
 
 returns-2 : tie.Need-returns-2
 returns-2 c ps =
     let o = c .before in
     let k = o .before .before in
-    ap (turnAnswer ps) (c .onward .ensures) ∙ simp (← k .before .before .read .ensures, k .w .given .1, o .operate .ensures)
+    ap (cycleAnswer ps) (c .onward .ensures) ∙ simp (← k .before .before .read .ensures, k .w .given .1, o .operate .ensures)
 
 pub load-spec : {M : Type 1} → statement M
 load-spec =

@@ -7,7 +7,7 @@ use borrow.Author.Needs.{needs}
 use Rattle.words.specs.declared.pointer.Pointer.{Pointer}
 use Rattle.state.specs.declared.record.Frame.{Frame}
 use Rattle.state.specs.declared.record.Registers.{Registers}
-use Rattle.instructions.specs.declared.turn.Event.{Event}
+use Rattle.instructions.specs.declared.cycle.Event.{Event}
 use Rattle.runs.specs.Rest.{Countable, restAnswer, restAfter, restOf}
 use Rattle.runs.proofs.rest.rest.Statement.{statement}
 use Rattle.runs.proofs.rest.rest.Tie as tie

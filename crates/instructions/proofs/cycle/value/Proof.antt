@@ -1,9 +1,9 @@
--- `instructions::turn::value` meets its contract.
+-- `instructions::cycle::value` meets its contract.
 use borrow.Author.Needs.{needs}
 use borrow.Author.Tests.{eq-eqb, ne-eqb}
 use Rattle.instructions.specs.Instruction.{valueOf}
-use Rattle.instructions.proofs.turn.value.Statement.{statement}
-use Rattle.instructions.proofs.turn.value.Tie as tie
+use Rattle.instructions.proofs.cycle.value.Statement.{statement}
+use Rattle.instructions.proofs.cycle.value.Tie as tie
 
 returns : tie.Need-returns
 unfolding valueOf

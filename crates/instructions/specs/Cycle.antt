@@ -1,4 +1,4 @@
--- One instruction as the loop makes it: everything but a crossing.
+-- An instruction cycle, fetch and execute, as the loop makes it: everything but a crossing.
 use Prim.Native.Nat.{ℕ, _+_}
 use mathlib.Core.Bool.{Bool, true, false}
 use mathlib.Core.List.{List}
@@ -10,22 +10,22 @@ use Rattle.state.specs.declared.record.Frame.{Frame}
 use Rattle.state.specs.declared.record.Registers.{Registers}
 use Rattle.references.specs.declared.flag.Access.the-variants as access
 use Rattle.references.specs.Reference.{verdictOf, accept}
-use Rattle.instructions.specs.declared.turn.Event.{Event}
-use Rattle.instructions.specs.declared.turn.Event.the-variants as event
-use Rattle.instructions.specs.declared.turn.Turn.{Turn}
+use Rattle.instructions.specs.declared.cycle.Event.{Event}
+use Rattle.instructions.specs.declared.cycle.Event.the-variants as event
+use Rattle.instructions.specs.declared.cycle.Cycle.{Cycle}
 use Rattle.memory.specs.Reader.{readOf, fetchOf, writtenOf}
 use Rattle.instructions.specs.Plan.{Plan, halt, move, store, enter, leave}
 use Rattle.instructions.specs.Instruction.{planOf, operateOf}
 use Rattle.pointers.specs.Stack.{withBase}
 
--- where an instruction came to
-pub data Turned : Type 0 where
-  ended : Turned
-  moved : Registers → List Pointer → Turned
-  entering leaving : Pointer → Turned
+-- how far an instruction came
+pub data Progress : Type 0 where
+  ended : Progress
+  moved : Registers → List Pointer → Progress
+  entering leaving : Pointer → Progress
 
 -- what the code's answer stands for, over the pointers that the instruction found
-abbrev pub eventAnswer : Registers → List Pointer → Event → Answer Turned
+abbrev pub eventAnswer : Registers → List Pointer → Event → Answer Progress
 eventAnswer r pointers event.Moved = ok (moved r pointers)
 eventAnswer r pointers (event.Pointed i p) = ok (moved r (set pointers i p))
 eventAnswer r pointers event.Halted = ok ended
@@ -33,12 +33,12 @@ eventAnswer r pointers (event.Entering p) = ok (entering p)
 eventAnswer r pointers (event.Leaving p) = ok (leaving p)
 eventAnswer r pointers (event.Faulted n) = refuse n
 
-abbrev pub turnAnswer : List Pointer → Turn → Answer Turned
-turnAnswer pointers t = eventAnswer (t .registers) pointers (t .event)
+abbrev pub cycleAnswer : List Pointer → Cycle → Answer Progress
+cycleAnswer pointers t = eventAnswer (t .registers) pointers (t .event)
 
 -- the same, whatever the pointers are
-abbrev pub Turns : Turn → (List Pointer → Answer Turned) → Type 0
-Turns t f = (pointers : List Pointer) → turnAnswer pointers t ≡ f pointers
+abbrev pub Cycles : Cycle → (List Pointer → Answer Progress) → Type 0
+Cycles t f = (pointers : List Pointer) → cycleAnswer pointers t ≡ f pointers
 
 -- the registers with this A at this segment and word
 abbrev pub registersAt : Registers → ℕ → ℕ → ℕ → Registers
@@ -46,14 +46,14 @@ registersAt r a segment word = record { a = a; word = word; segment = segment; d
 
 module _ (lengths rights bases words : List ℕ) (depth : ℕ) (frame : Frame) (r : Registers) (pointers : List Pointer) where
   -- a plan carried out, its store judged
-  abbrev pub settled : Plan → Answer Turned
+  abbrev pub settled : Plan → Answer Progress
   settled halt = ok ended
   settled (move a segment word next) = ok (moved (registersAt r a segment word) next)
   settled (store p v) = accept (verdictOf lengths rights (r .domain) depth frame access.Write p) (moved (registersAt r (r .a) (r .segment) (r .word + 1)) pointers)
   settled (enter p) = ok (entering p)
   settled (leave p) = ok (leaving p)
 
-  abbrev pub settledAnswer : Answer Plan → Answer Turned
+  abbrev pub settledAnswer : Answer Plan → Answer Progress
   settledAnswer plan = plan >>= settled
 
   -- the words after a plan
@@ -66,11 +66,11 @@ module _ (lengths rights bases words : List ℕ) (depth : ℕ) (frame : Frame) (
   settledWords (ok (leave p)) = words
 
 -- LOAD, ADD or SUB with the word read
-abbrev pub loaded : Registers → List Pointer → ℕ → Answer ℕ → Answer Turned
+abbrev pub loaded : Registers → List Pointer → ℕ → Answer ℕ → Answer Progress
 loaded r pointers opcode answer = answer >>= (λ w. ok (moved (registersAt r (operateOf opcode (r .a) w) (r .segment) (r .word + 1)) pointers))
 
 -- a call whose checks are made
-abbrev pub called : Registers → List Pointer → ℕ → Pointer → Answer Bool → Answer Turned
+abbrev pub called : Registers → List Pointer → ℕ → Pointer → Answer Bool → Answer Progress
 called r pointers stack p way =
     way >>= (λ inside. if inside then ok (moved (registersAt r (r .a) (p .segment) (p .word)) (withBase pointers stack)) else ok (entering p))
 
@@ -80,8 +80,8 @@ module _ (lengths gates rights stacks bases words : List ℕ) (depth : ℕ) (fra
   planned =
       planOf lengths gates rights stacks depth r pointers (fetchOf lengths rights bases words (r .domain) (r .segment) (r .word)) (readOf lengths rights bases words (r .domain) depth frame)
 
-  unfoldable pub turnOf : Answer Turned
-  turnOf = planned >>= settled lengths rights bases words depth frame r pointers
+  unfoldable pub cycleOf : Answer Progress
+  cycleOf = planned >>= settled lengths rights bases words depth frame r pointers
 
-  unfoldable pub turnWords : List ℕ
-  turnWords = settledWords lengths rights bases words depth frame r pointers planned
+  unfoldable pub cycleWords : List ℕ
+  cycleWords = settledWords lengths rights bases words depth frame r pointers planned

@@ -14,18 +14,18 @@ use Rattle.instructions.specs.Plan.{Plan, move, enter}
 use Rattle.transfers.specs.Transfer.{jumpCheck, callWay}
 use Rattle.instructions.specs.Instruction.{jumpOf, callOf, loadOf, next, operateOf}
 use Rattle.pointers.specs.Stack.{stackOf, withBase}
-use Rattle.instructions.specs.Turn.{Turned, moved, entering, registersAt, settled, settledAnswer, settledWords, loaded, called}
+use Rattle.instructions.specs.Cycle.{Progress, moved, entering, registersAt, settled, settledAnswer, settledWords, loaded, called}
 use Rattle.memory.proofs.Answers.{accept-then}
 
 module _ (lengths gates rights stacks bases words : List ℕ) (depth : ℕ) (frame : Frame) (r : Registers) (pointers : List Pointer) where
-  abbrev to : Answer Plan → Answer Turned
+  abbrev to : Answer Plan → Answer Progress
   to = settledAnswer lengths rights bases words depth frame r pointers
 
   abbrev left : Answer Plan → List ℕ
   left = settledWords lengths rights bases words depth frame r pointers
 
   -- a plan without a store that settles there
-  pub record Settles (plan : Answer Plan) (turned : Answer Turned) : Type 0 where
+  pub record Settles (plan : Answer Plan) (turned : Answer Progress) : Type 0 where
     pub there : to plan ≡ turned
     pub words-stay : left plan ≡ words
 

@@ -1,9 +1,9 @@
--- `instructions::turn::jumps` meets its contract.
+-- `instructions::cycle::jumps` meets its contract.
 use mathlib.Core.Path.{refl}
 use borrow.Author.Tests.{ne-eqb}
 use Rattle.instructions.specs.Instruction.{takenOf, jumpsOf}
-use Rattle.instructions.proofs.turn.jumps.Statement.{statement}
-use Rattle.instructions.proofs.turn.jumps.Tie as tie
+use Rattle.instructions.proofs.cycle.jumps.Statement.{statement}
+use Rattle.instructions.proofs.cycle.jumps.Tie as tie
 
 returns : tie.Need-returns
 unfolding jumpsOf

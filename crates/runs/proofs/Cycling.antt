@@ -17,12 +17,12 @@ use Rattle.state.specs.Bases.{basesOf}
 use Rattle.references.specs.declared.flag.Access.the-variants as access
 use Rattle.references.specs.Reference.{verdictOf, accept, indexOf, referenceOf}
 use Rattle.references.specs.Check.{check}
-use Rattle.instructions.specs.declared.turn.Event.{Event}
-use Rattle.instructions.specs.declared.turn.Event.the-variants as event
+use Rattle.instructions.specs.declared.cycle.Event.{Event}
+use Rattle.instructions.specs.declared.cycle.Event.the-variants as event
 use Rattle.memory.specs.Reader.{readOf, fetchOf, readWord, fetch, stored, writtenOf}
 use Rattle.instructions.specs.Plan.{Plan, halt, move, store, enter, leave}
 use Rattle.instructions.specs.Instruction.{planOf}
-use Rattle.instructions.specs.Turn.{Turned, ended, moved, entering, leaving, registersAt, settled, settledWords, planned, turnOf, turnWords}
+use Rattle.instructions.specs.Cycle.{Progress, ended, moved, entering, leaving, registersAt, settled, settledWords, planned, cycleOf, cycleWords}
 use Rattle.memory.proofs.Answers.{accept-then}
 use Rattle.arguments.specs.ArgumentList.{frameOf}
 use Rattle.crossings.specs.Crossing.{Changes, entered, left, enterOf, leaveOf, leaveCheck, enterParts, leaveParts}
@@ -100,13 +100,13 @@ module _ (stretch : Bool) (limit k n : ℕ) (count : limit - (n + 1) ≡ k) (m :
   abbrev bases : List ℕ
   bases = basesOf (m .layout .lengths)
 
-  -- the run after an instruction that turned out so, the words after it given
-  abbrev pub turned : List ℕ → Answer Turned → Ran
-  turned next (refuse f) = ran m next n (faulted f)
-  turned next (ok ended) = ran m next (n + 1) halted
-  turned next (ok (moved r pointers)) = runFrom stretch k (n + 1) (withParts m r pointers) next
-  turned next (ok (entering p)) = continued stretch limit m next (restAt m next n (event.Entering p))
-  turned next (ok (leaving p)) = continued stretch limit m next (restAt m next n (event.Leaving p))
+  -- the run after an instruction that cycled out so, the words after it given
+  abbrev pub cycled : List ℕ → Answer Progress → Ran
+  cycled next (refuse f) = ran m next n (faulted f)
+  cycled next (ok ended) = ran m next (n + 1) halted
+  cycled next (ok (moved r pointers)) = runFrom stretch k (n + 1) (withParts m r pointers) next
+  cycled next (ok (entering p)) = continued stretch limit m next (restAt m next n (event.Entering p))
+  cycled next (ok (leaving p)) = continued stretch limit m next (restAt m next n (event.Leaving p))
 
   -- a store, by the number of its check
   stores : (v i a : ℕ) (next : Machine) →
@@ -120,41 +120,41 @@ module _ (stretch : Bool) (limit k n : ℕ) (count : limit - (n + 1) ≡ k) (m :
       by true = refl
       by false = refl
 
-  accepted-turn : (v : ℕ) (r : Registers) (pointers : List Pointer) (next : List ℕ) →
-      after stretch (runFrom stretch k (n + 1)) n m next (accept v (done (withParts m r pointers) next moving)) ≡ turned next (accept v (moved r pointers))
-  accepted-turn v r pointers next = by (eqb v 0)
+  accepted-cycle : (v : ℕ) (r : Registers) (pointers : List Pointer) (next : List ℕ) →
+      after stretch (runFrom stretch k (n + 1)) n m next (accept v (done (withParts m r pointers) next moving)) ≡ cycled next (accept v (moved r pointers))
+  accepted-cycle v r pointers next = by (eqb v 0)
     where
       by : (t : Bool) →
-          after stretch (runFrom stretch k (n + 1)) n m next (if t then ok (done (withParts m r pointers) next moving) else refuse v) ≡ turned next (if t then ok (moved r pointers) else refuse v)
+          after stretch (runFrom stretch k (n + 1)) n m next (if t then ok (done (withParts m r pointers) next moving) else refuse v) ≡ cycled next (if t then ok (moved r pointers) else refuse v)
       by true = refl
       by false = refl
 
   -- an instruction whose plan is known
   by-plan : inUse (m .depth) ≡ m .depth → (plan : Answer Plan) →
       after stretch (runFrom stretch k (n + 1)) n m words (plan >>= resolve m (readWord m words) >>= commit m words)
-      ≡ turned (settledWords (m .layout .lengths) (m .layout .rights) bases words depth frame (m .registers) (m .pointers) plan) (plan >>= settled (m .layout .lengths) (m .layout .rights) bases words depth frame (m .registers) (m .pointers))
+      ≡ cycled (settledWords (m .layout .lengths) (m .layout .rights) bases words depth frame (m .registers) (m .pointers) plan) (plan >>= settled (m .layout .lengths) (m .layout .rights) bases words depth frame (m .registers) (m .pointers))
   unfolding commit check writtenOf referenceOf enterOf leaveOf readWord
   by-plan u (refuse f) = refl
   by-plan u (ok halt) = refl
   by-plan u (ok (move a s w ps)) = refl
   by-plan u (ok (store p v)) =
       rw u (rw u at (stores (verdictOf (m .layout .lengths) (m .layout .rights) (m .registers .domain) (inUse (m .depth)) frame access.Write p) (indexOf bases (p .segment) (p .word)) v (withParts m (registersAt (m .registers) (m .registers .a) (m .registers .segment) (m .registers .word + 1)) (m .pointers))
-      ∙ accepted-turn (verdictOf (m .layout .lengths) (m .layout .rights) (m .registers .domain) (inUse (m .depth)) frame access.Write p) (registersAt (m .registers) (m .registers .a) (m .registers .segment) (m .registers .word + 1)) (m .pointers) _))
+      ∙ accepted-cycle (verdictOf (m .layout .lengths) (m .layout .rights) (m .registers .domain) (inUse (m .depth)) frame access.Write p) (registersAt (m .registers) (m .registers .a) (m .registers .segment) (m .registers .word + 1)) (m .pointers) _))
   by-plan u (ok (enter p)) =
       rw u (rw u at (enters p (frameOf (readOf (m .layout .lengths) (m .layout .rights) bases words (m .registers .domain) (inUse (m .depth)) frame) (getD (m .pointers) 0 noPointer) (getD (m .pointers) 1 noPointer) (m .registers .domain) (inUse (m .depth)) frame)))
   by-plan u (ok (leave p)) =
       rw u (rw u at (leaves p frame (leaveCheck (m .layout .lengths) (m .layout .rights) (inUse (m .depth)) frame (getD (m .pointers) 1 noPointer) p)))
 
-  abbrev turnAt : Answer Turned
-  turnAt = turnOf (m .layout .lengths) (m .layout .gates) (m .layout .rights) (m .layout .stacks) bases words depth frame (m .registers) (m .pointers)
+  abbrev cycleAt : Answer Progress
+  cycleAt = cycleOf (m .layout .lengths) (m .layout .gates) (m .layout .rights) (m .layout .stacks) bases words depth frame (m .registers) (m .pointers)
 
   abbrev wordsAt : List ℕ
-  wordsAt = turnWords (m .layout .lengths) (m .layout .gates) (m .layout .rights) (m .layout .stacks) bases words depth frame (m .registers) (m .pointers)
+  wordsAt = cycleWords (m .layout .lengths) (m .layout .gates) (m .layout .rights) (m .layout .stacks) bases words depth frame (m .registers) (m .pointers)
 
   -- a run of at least one instruction, as its turn tells
-  pub run-turned : inUse (m .depth) ≡ m .depth → runFrom stretch (suc k) n m words ≡ turned wordsAt turnAt
-  unfolding runFrom execute decide fetch readWord turnOf turnWords
-  run-turned u = by-plan u (planOf (m .layout .lengths) (m .layout .gates) (m .layout .rights) (m .layout .stacks) (m .depth) (m .registers) (m .pointers) (fetch m words) (readWord m words)) ∙ rw u refl
+  pub run-cycled : inUse (m .depth) ≡ m .depth → runFrom stretch (suc k) n m words ≡ cycled wordsAt cycleAt
+  unfolding runFrom execute decide fetch readWord cycleOf cycleWords
+  run-cycled u = by-plan u (planOf (m .layout .lengths) (m .layout .gates) (m .layout .rights) (m .layout .stacks) (m .depth) (m .registers) (m .pointers) (fetch m words) (readWord m words)) ∙ rw u refl
 
 module _ (stretch : Bool) (limit : ℕ) where
   -- a run is a local run and then its rest
@@ -162,11 +162,11 @@ module _ (stretch : Bool) (limit : ℕ) where
   unfolding runFrom localFrom
   run-resumes zero n e m u words = refl
   run-resumes (suc k) n e m u words =
-      run-turned stretch limit k n (omega arith) m words u
-      ∙ by (run-resumes k (n + 1) (omega arith)) (turnAt stretch limit k n (omega arith) m words) (wordsAt stretch limit k n (omega arith) m words)
+      run-cycled stretch limit k n (omega arith) m words u
+      ∙ by (run-resumes k (n + 1) (omega arith)) (cycleAt stretch limit k n (omega arith) m words) (wordsAt stretch limit k n (omega arith) m words)
     where
       by : ((m : Machine) → inUse (m .depth) ≡ m .depth → (words : List ℕ) → runFrom stretch k (n + 1) m words ≡ restOfLocal stretch limit m (localAt m k (n + 1) words))
-          → (t : Answer Turned) (next : List ℕ) → turned stretch limit k n (omega arith) m words next t
+          → (t : Answer Progress) (next : List ℕ) → cycled stretch limit k n (omega arith) m words next t
           ≡ restOfLocal stretch limit m (onward (λ r pointers v. localAt (withParts m r pointers) k (n + 1) v) n (m .registers) (m .pointers) next t)
       by more (refuse f) next = refl
       by more (ok ended) next = refl

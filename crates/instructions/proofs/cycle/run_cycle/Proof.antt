@@ -1,10 +1,10 @@
--- `instructions::turn::take_turn` meets its contract.
+-- `instructions::cycle::run_cycle` meets its contract.
 use borrow.Author.Needs.{needs}
 use mathlib.Core.Path.{_≡_, refl, sym, ap, _∙_}
 use Rattle.instructions.specs.Instruction.{planOf}
-use Rattle.instructions.specs.Turn.{turnAnswer, turnOf, turnWords}
-use Rattle.instructions.proofs.turn.take_turn.Statement.{statement}
-use Rattle.instructions.proofs.turn.take_turn.Tie as tie
+use Rattle.instructions.specs.Cycle.{cycleAnswer, cycleOf, cycleWords}
+use Rattle.instructions.proofs.cycle.run_cycle.Statement.{statement}
+use Rattle.instructions.proofs.cycle.run_cycle.Tie as tie
 
 fetch-requires : tie.Need-fetch-requires
 fetch-requires c κs = search needs
@@ -40,27 +40,27 @@ same-length : tie.Need-same-length
 same-length c = search needs
 
 returns : tie.Need-returns
-unfolding turnOf turnWords planOf
+unfolding cycleOf cycleWords planOf
 returns c =
     let k = c .before .before in
-    simp (← k .before .before .fetch .ensures .0, k .n .given .1) (ap (turnAnswer _) (c .stay .ensures), refl)
+    simp (← k .before .before .fetch .ensures .0, k .n .given .1) (ap (cycleAnswer _) (c .stay .ensures), refl)
 
 same-length-2 : tie.Need-same-length-2
 same-length-2 c = search needs
 
 returns-2 : tie.Need-returns-2
-unfolding turnOf turnWords planOf
+unfolding cycleOf cycleWords planOf
 returns-2 c =
     let k = c .before .before in
     let d = k .before .before in
     let w = d .before .before in
-    simp (← w .before .before .fetch .ensures .0, w .w .given .1, ← d .decode .ensures, k .n2 .given .1) (ap (turnAnswer _) (c .stay2 .ensures), refl)
+    simp (← w .before .before .fetch .ensures .0, w .w .given .1, ← d .decode .ensures, k .n2 .given .1) (ap (cycleAnswer _) (c .stay2 .ensures), refl)
 
 same-length-3 : tie.Need-same-length-3
 same-length-3 c = search needs
 
 returns-3 : tie.Need-returns-3
-unfolding turnOf turnWords planOf
+unfolding cycleOf cycleWords planOf
 returns-3 c =
     let f = c .before .before in
     let k = f .before .before .before in
@@ -68,8 +68,8 @@ returns-3 c =
     let w = d .before .before in
     simp (← w .before .before .fetch .ensures .0, w .w .given .1, ← d .decode .ensures, k .i .given .1) (f .perform .ensures .0, f .perform .ensures .1)
 
-pub take-turn-spec : {M : Type 1} → statement M
-take-turn-spec =
+pub run-cycle-spec : {M : Type 1} → statement M
+run-cycle-spec =
     tie.close
     (tie.spec
     fetch-requires

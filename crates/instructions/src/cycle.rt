@@ -3,7 +3,7 @@ ghost use mathlib.Core.Path.{_≡_};
 ghost use Prim.Native.Nat.{_<_};
 ghost use Rattle.memory.specs.Reader.{readOf};
 ghost use Rattle.instructions.specs.Instruction.{isLoad, isStore, valueOf, jumpsOf, effectOf, executeOf};
-ghost use Rattle.instructions.specs.Turn.{turnAnswer, turnOf, turnWords, settledAnswer, settledWords};
+ghost use Rattle.instructions.specs.Cycle.{cycleAnswer, cycleOf, cycleWords, settledAnswer, settledWords};
 use crate::effects::call;
 use crate::effects::go_to;
 use crate::effects::load;
@@ -36,7 +36,7 @@ pub enum Event {
     Faulted(u8),
 }
 
-pub struct Turn {
+pub struct Cycle {
     pub registers: Registers,
     pub event: Event,
 }
@@ -101,9 +101,9 @@ fn effect<'a>(
     opcode: u8,
     register: u8,
     p: Pointer,
-) -> Turn
+) -> Cycle
     requires { ⌜ r .word < 65535 ⌝ }
-    ensures { λ t. ⌜ turnAnswer pointers t ≡ settledAnswer (now (lengths .entry)) (now (rights .entry)) (now (bases .entry)) (now (words .entry)) depth frame r pointers (effectOf (now (lengths .entry)) (now (gates .entry)) (now (rights .entry)) (now (stacks .entry)) depth r pointers (readOf (now (lengths .entry)) (now (rights .entry)) (now (bases .entry)) (now (words .entry)) (r .domain) depth frame) opcode register p) ⌝ }
+    ensures { λ t. ⌜ cycleAnswer pointers t ≡ settledAnswer (now (lengths .entry)) (now (rights .entry)) (now (bases .entry)) (now (words .entry)) depth frame r pointers (effectOf (now (lengths .entry)) (now (gates .entry)) (now (rights .entry)) (now (stacks .entry)) depth r pointers (readOf (now (lengths .entry)) (now (rights .entry)) (now (bases .entry)) (now (words .entry)) (r .domain) depth frame) opcode register p) ⌝ }
     ensures { λ t. ⌜ now (words .exit) ≡ settledWords (now (lengths .entry)) (now (rights .entry)) (now (bases .entry)) (now (words .entry)) depth frame r pointers (effectOf (now (lengths .entry)) (now (gates .entry)) (now (rights .entry)) (now (stacks .entry)) depth r pointers (readOf (now (lengths .entry)) (now (rights .entry)) (now (bases .entry)) (now (words .entry)) (r .domain) depth frame) opcode register p) ⌝ }
 {
     if is_load(opcode) {
@@ -141,9 +141,9 @@ fn perform<'a>(
     r: Registers,
     pointers: [Pointer; 8],
     i: Instruction,
-) -> Turn
+) -> Cycle
     requires { ⌜ r .word < 65535 ⌝ }
-    ensures { λ t. ⌜ turnAnswer pointers t ≡ settledAnswer (now (lengths .entry)) (now (rights .entry)) (now (bases .entry)) (now (words .entry)) depth frame r pointers (executeOf (now (lengths .entry)) (now (gates .entry)) (now (rights .entry)) (now (stacks .entry)) depth r pointers (readOf (now (lengths .entry)) (now (rights .entry)) (now (bases .entry)) (now (words .entry)) (r .domain) depth frame) i) ⌝ }
+    ensures { λ t. ⌜ cycleAnswer pointers t ≡ settledAnswer (now (lengths .entry)) (now (rights .entry)) (now (bases .entry)) (now (words .entry)) depth frame r pointers (executeOf (now (lengths .entry)) (now (gates .entry)) (now (rights .entry)) (now (stacks .entry)) depth r pointers (readOf (now (lengths .entry)) (now (rights .entry)) (now (bases .entry)) (now (words .entry)) (r .domain) depth frame) i) ⌝ }
     ensures { λ t. ⌜ now (words .exit) ≡ settledWords (now (lengths .entry)) (now (rights .entry)) (now (bases .entry)) (now (words .entry)) depth frame r pointers (executeOf (now (lengths .entry)) (now (gates .entry)) (now (rights .entry)) (now (stacks .entry)) depth r pointers (readOf (now (lengths .entry)) (now (rights .entry)) (now (bases .entry)) (now (words .entry)) (r .domain) depth frame) i) ⌝ }
 {
     let opcode = i.opcode;
@@ -184,7 +184,7 @@ fn perform<'a>(
 }
 
 // The instruction at the location.
-pub fn take_turn<'a>(
+pub fn run_cycle<'a>(
     lengths: &'a [u16; 16],
     gates: &'a [u16; 16],
     rights: &'a [u8; 128],
@@ -195,9 +195,9 @@ pub fn take_turn<'a>(
     frame: Frame,
     r: Registers,
     pointers: [Pointer; 8],
-) -> Turn
-    ensures { λ t. ⌜ turnAnswer pointers t ≡ turnOf (now (lengths .entry)) (now (gates .entry)) (now (rights .entry)) (now (stacks .entry)) (now (bases .entry)) (now (words .entry)) depth frame r pointers ⌝ }
-    ensures { λ t. ⌜ now (words .exit) ≡ turnWords (now (lengths .entry)) (now (gates .entry)) (now (rights .entry)) (now (stacks .entry)) (now (bases .entry)) (now (words .entry)) depth frame r pointers ⌝ }
+) -> Cycle
+    ensures { λ t. ⌜ cycleAnswer pointers t ≡ cycleOf (now (lengths .entry)) (now (gates .entry)) (now (rights .entry)) (now (stacks .entry)) (now (bases .entry)) (now (words .entry)) depth frame r pointers ⌝ }
+    ensures { λ t. ⌜ now (words .exit) ≡ cycleWords (now (lengths .entry)) (now (gates .entry)) (now (rights .entry)) (now (stacks .entry)) (now (bases .entry)) (now (words .entry)) depth frame r pointers ⌝ }
 {
     match fetch(lengths, rights, bases, words, r.domain, r.segment, r.word) {
         WordAnswer::Refused(n) => stay(r, Event::Faulted(n)),
