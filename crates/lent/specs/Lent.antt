@@ -4,7 +4,7 @@ use mathlib.Core.List.{List}
 use Rattle.state.specs.declared.record.Machine.{Machine}
 use Rattle.runs.specs.Run.{Ran, ran}
 use Rattle.processor.specs.Calls.{Step}
-use Rattle.runs.specs.Rest.{endAnswer}
+use Rattle.runs.specs.Resume.{endAnswer}
 use Rattle.lent.specs.declared.StepResult.{StepResult}
 use Rattle.lent.specs.declared.RunResult.{RunResult}
 

@@ -1,7 +1,7 @@
 // Runs of a machine, on the bytes of its record.
 ghost use mathlib.Core.Path.{_≡_};
 ghost use Prim.Native.Nat.{_+_};
-ghost use Rattle.runs.specs.Rest.{endAnswer, ranAnswer};
+ghost use Rattle.runs.specs.Resume.{endAnswer, ranAnswer};
 ghost use Rattle.probe.specs.Runs.{ranBy, ranOn, endCode, ranCode, bytesAfter};
 use processor::run;
 use processor::stretch;

@@ -7,7 +7,7 @@ use lib.ListN.{length, take, replicate, length-replicate}
 use lib.Seq.{length-take-le}
 use Rattle.runs.specs.declared.outcome.End.the-variants as end
 use Rattle.runs.specs.declared.outcome.Outcome.{Outcome}
-use Rattle.runs.specs.Rest.{endAnswer}
+use Rattle.runs.specs.Resume.{endAnswer}
 use Rattle.image.specs.Output.{written}
 use Rattle.image.proofs.Written.{then-length}
 use Rattle.entry.specs.ImageRun.{outcomeAnswer, imageRun, closed}

@@ -21,7 +21,7 @@ use Rattle.crossings.specs.Crossing.{Changes, enterParts, leaveCheck, leavePart
 use Rattle.arguments.specs.ArgumentList.{frameOf}
 use Rattle.state.specs.Record.{noPointer}
 use Rattle.local_runs.specs.LocalRun.{Paused, paused, onward, localFrom}
-use Rattle.runs.specs.Rest.{Countable, Rest, ends, goes, restAfter, restOf}
+use Rattle.runs.specs.Resume.{Countable, Resumed, ends, goes, resumeAfter, resumeOf}
 use Rattle.runs.proofs.Free.{Free, plan-free}
 use Rattle.local_runs.proofs.LocalRuns.{cycle-length}
 
@@ -100,24 +100,24 @@ module _ (lengths gates rights stacks bases : List ℕ) (depth : ℕ) (frame : F
       by more (ok (entering p)) next h = h
       by more (ok (leaving p)) next h = h
 
--- a rest that goes on has a row for its frame, and has counted
-abbrev pub Room : ℕ → ℕ → Rest → Type 0
+-- a run that goes on has a row for its frame, and has counted
+abbrev pub Room : ℕ → ℕ → Resumed → Type 0
 Room low limit (ends r ps n e) = Unit {0}
 Room low limit (goes n row depth c) = (row < 8) × ((depth ≤ 8) × ((low < n) × (n ≤ limit)))
 
-after-room : (low limit n : ℕ) (r : Registers) (ps : List Pointer) (row depth : ℕ) → low ≤ n → n < limit → row < 8 → depth ≤ 8 → (c : Answer Changes) → Room low limit (restAfter r ps n row depth c)
+after-room : (low limit n : ℕ) (r : Registers) (ps : List Pointer) (row depth : ℕ) → low ≤ n → n < limit → row < 8 → depth ≤ 8 → (c : Answer Changes) → Room low limit (resumeAfter r ps n row depth c)
 after-room low limit n r ps row depth l h i j (refuse f) = tt
 after-room low limit n r ps row depth l h i j (ok c) = (i, (j, (omega arith, omega arith)))
 
 module _ (lengths rights bases gatedomains stacks words : List ℕ) (depth : ℕ) (frame : Frame) (r : Registers) (ps : List Pointer) (low limit n : ℕ) (most : depth ≤ 8) where
-  pub rest-room : (e : Event) → Fine depth low limit n e → Room low limit (restOf lengths rights bases gatedomains stacks words depth frame r ps n e)
-  rest-room event.Moved f = tt
-  rest-room (event.Pointed i p) f = tt
-  rest-room event.Halted f = tt
-  rest-room (event.Faulted k) f = tt
-  rest-room (event.Entering p) f =
+  pub resume-room : (e : Event) → Fine depth low limit n e → Room low limit (resumeOf lengths rights bases gatedomains stacks words depth frame r ps n e)
+  resume-room event.Moved f = tt
+  resume-room (event.Pointed i p) f = tt
+  resume-room event.Halted f = tt
+  resume-room (event.Faulted k) f = tt
+  resume-room (event.Entering p) f =
       after-room low limit n r ps depth (depth + 1) (f .1 .0) (f .0) (f .1 .1) (omega (arith, f .1 .1))
       (enterParts gatedomains stacks r ps p (frameOf (readOf lengths rights bases words (r .domain) depth frame) (getD ps 0 noPointer) (getD ps 1 noPointer) (r .domain) depth frame))
-  rest-room (event.Leaving p) f =
+  resume-room (event.Leaving p) f =
       after-room low limit n r ps (depth - 1) (depth - 1) (f .1) (f .0) (omega arith) (omega arith)
       (leaveParts stacks r ps p frame (leaveCheck lengths rights depth frame (getD ps 1 noPointer) p))

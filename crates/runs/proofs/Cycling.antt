@@ -30,7 +30,7 @@ use Rattle.runs.specs.Step.{Act, cross, Done, done, resolve, decide, com
 use Rattle.runs.specs.Step.{moved as moving}
 use Rattle.runs.specs.Run.{Ran, ran, Ending, halted, spent, crossed, faulted, after, runFrom}
 use Rattle.local_runs.specs.LocalRun.{Paused, paused, onward, localFrom}
-use Rattle.runs.specs.Rest.{Rest, ends, goes, restAfter, restOf}
+use Rattle.runs.specs.Resume.{Resumed, ends, goes, resumeAfter, resumeOf}
 
 -- a machine with other registers and pointers
 abbrev pub withParts : Machine → Registers → List Pointer → Machine
@@ -40,16 +40,16 @@ withParts m r pointers = record { layout = m .layout; registers = r; pointers = 
 abbrev pub crossedTo : Machine → ℕ → ℕ → Changes → Machine
 crossedTo m row depth c = record { layout = m .layout; registers = c .registers; pointers = c .pointers; frames = set (m .frames) row (c .frame); depth = depth }
 
--- the run that goes on from a rest
-abbrev pub continued : Bool → ℕ → Machine → List ℕ → Rest → Ran
+-- the run that is resumed
+abbrev pub continued : Bool → ℕ → Machine → List ℕ → Resumed → Ran
 continued stretch limit m words (ends r pointers n e) = ran (withParts m r pointers) words n e
 continued stretch limit m words (goes n row depth c) =
     if stretch then ran (crossedTo m row depth c) words n crossed else runFrom stretch (limit - n) n (crossedTo m row depth c) words
 
--- the rest of a machine's run, at an event
-abbrev pub restAt : Machine → List ℕ → ℕ → Event → Rest
-restAt m words n e =
-    restOf (m .layout .lengths) (m .layout .rights) (basesOf (m .layout .lengths)) (m .layout .gatedomains) (m .layout .stacks) words (m .depth) (liveFrame (m .depth) (m .frames)) (m .registers) (m .pointers) n e
+-- how a machine's run resumes at an event
+abbrev pub resumeAt : Machine → List ℕ → ℕ → Event → Resumed
+resumeAt m words n e =
+    resumeOf (m .layout .lengths) (m .layout .rights) (basesOf (m .layout .lengths)) (m .layout .gatedomains) (m .layout .stacks) words (m .depth) (liveFrame (m .depth) (m .frames)) (m .registers) (m .pointers) n e
 
 -- a machine's local run
 abbrev pub localAt : Machine → ℕ → ℕ → List ℕ → Paused
@@ -57,14 +57,14 @@ localAt m k n words =
     localFrom (m .layout .lengths) (m .layout .gates) (m .layout .rights) (m .layout .stacks) (basesOf (m .layout .lengths)) (m .depth) (liveFrame (m .depth) (m .frames)) k n (m .registers) (m .pointers) words
 
 -- a run after a local run
-abbrev pub restOfLocal : Bool → ℕ → Machine → Paused → Ran
-restOfLocal stretch limit m p =
-    let n = withParts m (p .pause .registers) (p .pause .pointers) in continued stretch limit n (p .words) (restAt n (p .words) (p .pause .count) (p .pause .event))
+abbrev pub resumeLocal : Bool → ℕ → Machine → Paused → Ran
+resumeLocal stretch limit m p =
+    let n = withParts m (p .pause .registers) (p .pause .pointers) in continued stretch limit n (p .words) (resumeAt n (p .words) (p .pause .count) (p .pause .event))
 
 module _ (stretch : Bool) (limit k n : ℕ) (count : limit - (n + 1) ≡ k) (m : Machine) (words : List ℕ) where
   -- a crossing that was answered
   answered : (row depth : ℕ) (x : Answer Machine) (c : Answer Changes) → x ≡ (c >>= (λ d. ok (crossedTo m row depth d)))
-      → after stretch (runFrom stretch k (n + 1)) n m words (x >>= (λ d. ok (cross d)) >>= commit m words) ≡ continued stretch limit m words (restAfter (m .registers) (m .pointers) n row depth c)
+      → after stretch (runFrom stretch k (n + 1)) n m words (x >>= (λ d. ok (cross d)) >>= commit m words) ≡ continued stretch limit m words (resumeAfter (m .registers) (m .pointers) n row depth c)
   unfolding commit
   answered row depth x (refuse f) e = rw e refl
   answered row depth x (ok c) e = rw (e, count) refl
@@ -83,12 +83,12 @@ module _ (stretch : Bool) (limit k n : ℕ) (count : limit - (n + 1) ≡ k) (m :
   -- a call through a gate, and a return, whose answer is known
   enters : (p : Pointer) (made : Answer Frame) →
       after stretch (runFrom stretch k (n + 1)) n m words (made >>= (λ f. ok (entered m p f)) >>= (λ d. ok (cross d)) >>= commit m words)
-      ≡ continued stretch limit m words (restAfter (m .registers) (m .pointers) n (m .depth) (m .depth + 1) (enterParts (m .layout .gatedomains) (m .layout .stacks) (m .registers) (m .pointers) p made))
+      ≡ continued stretch limit m words (resumeAfter (m .registers) (m .pointers) n (m .depth) (m .depth + 1) (enterParts (m .layout .gatedomains) (m .layout .stacks) (m .registers) (m .pointers) p made))
   enters p made = answered (m .depth) (m .depth + 1) _ (enterParts (m .layout .gatedomains) (m .layout .stacks) (m .registers) (m .pointers) p made) (entered-goes p made)
 
   leaves : (p : Pointer) (f : Frame) (v : ℕ) →
       after stretch (runFrom stretch k (n + 1)) n m words (accept v (left m p f) >>= (λ d. ok (cross d)) >>= commit m words)
-      ≡ continued stretch limit m words (restAfter (m .registers) (m .pointers) n (m .depth - 1) (m .depth - 1) (leaveParts (m .layout .stacks) (m .registers) (m .pointers) p f v))
+      ≡ continued stretch limit m words (resumeAfter (m .registers) (m .pointers) n (m .depth - 1) (m .depth - 1) (leaveParts (m .layout .stacks) (m .registers) (m .pointers) p f v))
   leaves p f v = answered (m .depth - 1) (m .depth - 1) _ (leaveParts (m .layout .stacks) (m .registers) (m .pointers) p f v) (left-goes p f v)
 
   abbrev depth : ℕ
@@ -105,8 +105,8 @@ module _ (stretch : Bool) (limit k n : ℕ) (count : limit - (n + 1) ≡ k) (m :
   cycled next (refuse f) = ran m next n (faulted f)
   cycled next (ok ended) = ran m next (n + 1) halted
   cycled next (ok (moved r pointers)) = runFrom stretch k (n + 1) (withParts m r pointers) next
-  cycled next (ok (entering p)) = continued stretch limit m next (restAt m next n (event.Entering p))
-  cycled next (ok (leaving p)) = continued stretch limit m next (restAt m next n (event.Leaving p))
+  cycled next (ok (entering p)) = continued stretch limit m next (resumeAt m next n (event.Entering p))
+  cycled next (ok (leaving p)) = continued stretch limit m next (resumeAt m next n (event.Leaving p))
 
   -- a store, by the number of its check
   stores : (v i a : ℕ) (next : Machine) →
@@ -157,17 +157,17 @@ module _ (stretch : Bool) (limit k n : ℕ) (count : limit - (n + 1) ≡ k) (m :
   run-cycled u = by-plan u (planOf (m .layout .lengths) (m .layout .gates) (m .layout .rights) (m .layout .stacks) (m .depth) (m .registers) (m .pointers) (fetch m words) (readWord m words)) ∙ rw u refl
 
 module _ (stretch : Bool) (limit : ℕ) where
-  -- a run is a local run and then its rest
-  pub run-resumes : (k n : ℕ) → n + k ≡ limit → (m : Machine) → inUse (m .depth) ≡ m .depth → (words : List ℕ) → runFrom stretch k n m words ≡ restOfLocal stretch limit m (localAt m k n words)
+  -- a run is a local run and what resumes after it
+  pub run-resumes : (k n : ℕ) → n + k ≡ limit → (m : Machine) → inUse (m .depth) ≡ m .depth → (words : List ℕ) → runFrom stretch k n m words ≡ resumeLocal stretch limit m (localAt m k n words)
   unfolding runFrom localFrom
   run-resumes zero n e m u words = refl
   run-resumes (suc k) n e m u words =
       run-cycled stretch limit k n (omega arith) m words u
       ∙ by (run-resumes k (n + 1) (omega arith)) (cycleAt stretch limit k n (omega arith) m words) (wordsAt stretch limit k n (omega arith) m words)
     where
-      by : ((m : Machine) → inUse (m .depth) ≡ m .depth → (words : List ℕ) → runFrom stretch k (n + 1) m words ≡ restOfLocal stretch limit m (localAt m k (n + 1) words))
+      by : ((m : Machine) → inUse (m .depth) ≡ m .depth → (words : List ℕ) → runFrom stretch k (n + 1) m words ≡ resumeLocal stretch limit m (localAt m k (n + 1) words))
           → (t : Answer Progress) (next : List ℕ) → cycled stretch limit k n (omega arith) m words next t
-          ≡ restOfLocal stretch limit m (onward (λ r pointers v. localAt (withParts m r pointers) k (n + 1) v) n (m .registers) (m .pointers) next t)
+          ≡ resumeLocal stretch limit m (onward (λ r pointers v. localAt (withParts m r pointers) k (n + 1) v) n (m .registers) (m .pointers) next t)
       by more (refuse f) next = refl
       by more (ok ended) next = refl
       by more (ok (moved r pointers)) next = more (withParts m r pointers) u next

@@ -15,12 +15,12 @@ use Rattle.crossings.specs.Crossing.{Changes}
 use Rattle.runs.specs.declared.outcome.End.{End}
 use Rattle.runs.specs.declared.outcome.End.the-variants as end
 use Rattle.local_runs.specs.declared.Pause.{Pause}
-use Rattle.runs.specs.declared.rest.Crossing.{Crossing}
+use Rattle.runs.specs.declared.resume.Crossing.{Crossing}
 use Rattle.runs.specs.Run.{Ran, ran, crossed, runFrom}
 use Rattle.local_runs.specs.LocalRun.{Paused, localFrom}
-use Rattle.runs.specs.Rest.{endAnswer, Rest, restBy, restAnswer, restOf, Countable}
-use Rattle.runs.proofs.Cycling.{withParts, crossedTo, continued, localAt, restOfLocal, run-resumes}
-use Rattle.runs.proofs.Bounds.{Fine, fine-countable, local-fine, local-length, Room, rest-room}
+use Rattle.runs.specs.Resume.{endAnswer, Resumed, resumeBy, resumeAnswer, resumeOf, Countable}
+use Rattle.runs.proofs.Cycling.{withParts, crossedTo, continued, localAt, resumeLocal, run-resumes}
+use Rattle.runs.proofs.Bounds.{Fine, fine-countable, local-fine, local-length, Room, resume-room}
 
 -- a run has come to a machine and its words after n instructions
 pub record Runs (stretch : Bool) (limit : ℕ) (m₀ : Machine) (words₀ : List ℕ) (m : Machine) (words : List ℕ) (n : ℕ) : Type 0 where
@@ -53,18 +53,18 @@ module _ (stretch : Bool) (limit : ℕ) (m₀ : Machine) (words₀ : List ℕ) (
     pub countable : limit ≤ 65535 → Countable (t .count) (t .event)
     countable h = fine-countable (m .depth) n limit (t .count) h (t .event) (pauses .fine)
 
-    module _ (c : Crossing) (ec : restAnswer c ≡ restOf (m .layout .lengths) (m .layout .rights) places (m .layout .gatedomains) (m .layout .stacks) w (m .depth) frame (t .registers) (t .pointers) (t .count) (t .event)) where
+    module _ (c : Crossing) (ec : resumeAnswer c ≡ resumeOf (m .layout .lengths) (m .layout .rights) places (m .layout .gatedomains) (m .layout .stacks) w (m .depth) frame (t .registers) (t .pointers) (t .count) (t .event)) where
       -- the whole run goes on from the crossing's answer
-      pub rested : runFrom stretch limit 0 m₀ words₀ ≡ continued stretch limit (withParts m (t .registers) (t .pointers)) w (restAnswer c)
+      pub rested : runFrom stretch limit 0 m₀ words₀ ≡ continued stretch limit (withParts m (t .registers) (t .pointers)) w (resumeAnswer c)
       rested = l .rest ∙ run-resumes stretch limit (limit - n) n (omega (arith, l .within)) m (simp (le-leb _ _ (l .most)) refl) words ∙ rw (ec, et, ew, live, here) refl
 
-      pub room : Room n limit (restAnswer c)
-      room = rw ec (rest-room _ _ _ _ _ _ _ _ _ _ n limit (t .count) (l .most) (t .event) (pauses .fine))
+      pub room : Room n limit (resumeAnswer c)
+      room = rw ec (resume-room _ _ _ _ _ _ _ _ _ _ n limit (t .count) (l .most) (t .event) (pauses .fine))
 
       pub ends-so : (c .end ≡ end.Crossed → ⊥) → runFrom stretch limit 0 m₀ words₀ ≡ ran (withParts m (c .registers) (c .pointers)) w (c .count) (endAnswer (c .end))
       ends-so other = rested ∙ by (c .end) other
         where
-          by : (e : End) → (e ≡ end.Crossed → ⊥) → continued stretch limit (withParts m (t .registers) (t .pointers)) w (restBy c e) ≡ ran (withParts m (c .registers) (c .pointers)) w (c .count) (endAnswer e)
+          by : (e : End) → (e ≡ end.Crossed → ⊥) → continued stretch limit (withParts m (t .registers) (t .pointers)) w (resumeBy c e) ≡ ran (withParts m (c .registers) (c .pointers)) w (c .count) (endAnswer e)
           by end.Halted o = refl
           by (end.Faulted f) o = refl
           by end.Spent o = refl

@@ -1,11 +1,11 @@
 // Runs: local runs and crossings by turns, up to an end or a limit.
 pub mod outcome;
-mod rest;
+mod resume;
 mod running;
 
 ghost use mathlib.Core.Path.{_≡_};
 ghost use Rattle.runs.specs.Run.{runFrom, judged, calledOf};
-ghost use Rattle.runs.specs.Rest.{ranAnswer};
+ghost use Rattle.runs.specs.Resume.{ranAnswer};
 use crate::outcome::End;
 use crate::outcome::Outcome;
 use crate::running::run_on;

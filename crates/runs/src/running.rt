@@ -2,10 +2,10 @@
 ghost use mathlib.Core.Path.{_≡_};
 ghost use Prim.Native.Nat.{_≤_};
 ghost use Rattle.runs.specs.Run.{runFrom};
-ghost use Rattle.runs.specs.Rest.{ranAnswer};
+ghost use Rattle.runs.specs.Resume.{ranAnswer};
 use crate::outcome::End;
 use crate::outcome::Outcome;
-use crate::rest::rest;
+use crate::resume::resume;
 use local_runs::run_local;
 use state::bases::bases;
 use state::frames::live_row;
@@ -73,7 +73,7 @@ pub fn run_on(m: Machine, words: &mut [u32], limit: u16, stretch: bool) -> Outco
         let moved = t.registers;
         let held = t.pointers;
         let event = t.event;
-        let c = rest(
+        let c = resume(
             &layout.lengths,
             &layout.rights,
             &places,

@@ -7,7 +7,7 @@ use mathlib.Core.Logic.{⊎-elim}
 use mathlib.Core.Path.{sym, _∙_}
 use lib.ListN.{replicate, length-replicate}
 use types.Run.{OneOf}
-use Rattle.runs.specs.Rest.{endAnswer}
+use Rattle.runs.specs.Resume.{endAnswer}
 use Rattle.report.specs.Text.{line}
 use Rattle.report.specs.Report.{endText, restText}
 use Rattle.report.proofs.Puts.{puts-more}

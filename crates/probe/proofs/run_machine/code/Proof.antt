@@ -4,7 +4,7 @@ use Prim.Native.Nat.{ℕ, _+_}
 use native.Mathlib.Omega.{arith}
 use Rattle.runs.specs.declared.outcome.End.{End}
 use Rattle.runs.specs.declared.outcome.End.the-variants as end
-use Rattle.runs.specs.Rest.{endAnswer}
+use Rattle.runs.specs.Resume.{endAnswer}
 use Rattle.probe.specs.Runs.{endCode}
 use borrow.Author.Needs.{needs}
 use Rattle.probe.proofs.run_machine.code.Statement.{statement}

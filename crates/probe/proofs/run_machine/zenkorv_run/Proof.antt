@@ -1,7 +1,7 @@
 -- `probe::run_machine::zenkorv_run` meets its contract.
 use mathlib.Core.Path.{_≡_, refl, sym, ap, _∙_}
 use borrow.Author.Needs.{needs}
-use Rattle.runs.specs.Rest.{ranAnswer}
+use Rattle.runs.specs.Resume.{ranAnswer}
 use Rattle.probe.proofs.Running.{without-room, with-room}
 use Rattle.probe.proofs.run_machine.zenkorv_run.Statement.{statement}
 use Rattle.probe.proofs.run_machine.zenkorv_run.Tie as tie

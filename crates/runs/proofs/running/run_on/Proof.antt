@@ -13,7 +13,7 @@ use Rattle.state.specs.Record.{liveFrame, noFrame}
 use Rattle.runs.specs.declared.outcome.Outcome.{Outcome}
 use Rattle.runs.specs.declared.outcome.End.the-variants as end
 use Rattle.runs.specs.Run.{Ran, ran, runFrom}
-use Rattle.runs.specs.Rest.{ranAnswer, endAnswer}
+use Rattle.runs.specs.Resume.{ranAnswer, endAnswer}
 use Rattle.runs.proofs.Loops.{Runs, starts, Pauses, pauses, countable, ends-so, crossed-so, bounds, goes-on}
 use Rattle.runs.proofs.running.run_on.Statement.{statement}
 use Rattle.runs.proofs.running.run_on.Tie as tie
@@ -61,8 +61,8 @@ run-local-requires c κs = search needs
 abbrev at : tie.At-loop Inv-loop μ-loop → Machine
 at l = record { layout = l .before .before .before .before .before .before .before .before .before .args .m .layout; registers = l .loop .registers; pointers = l .loop .pointers; frames = l .loop .frames; depth = l .loop .depth }
 
-rest-requires : tie.Need-rest-requires Inv-loop μ-loop
-rest-requires c κs =
+resume-requires : tie.Need-resume-requires Inv-loop μ-loop
+resume-requires c κs =
     let m = c .before .before .before .before .before .before .before .before .before .before .before in
     let l = m .before .before .before .before .before .before .before .before .before .before in
     (countable _ _ _ _ (at (m .before .before .before .before .before .before .before .before .before .before)) _ _ (m .before .before .before .before .before .before .before .before .before .before .loop .inv) _ (m .before .before .before .before .before .before .before .before .before .before .before .before .before .before .bases .ensures) _ (live (m .before .before .before .before .before .before .before .before .before)) _ _ (m .run-local .ensures .0) (m .run-local .ensures .1) (omega (arith, l .before .before .before .before .before .before .before .before .before .fits .limit)), l .loop .inv .most)
@@ -73,8 +73,8 @@ enum-told c = c .match .keys1
 -- a crossing has a row for its frame, and has counted
 crossing : (c : tie.After-enum-told Inv-loop μ-loop) →
     let r = c .before .before .before .before in
-    (r .rest .result .row < 8) × ((r .rest .result .depth ≤ 8) × ((r .before .before .before .before .before .before .before .before .before .before .before .before .before .before .before .before .before .before .before .before .before .before .loop .n < r .rest .result .count) × (r .rest .result .count ≤ r .before .before .before .before .before .before .before .before .before .before .before .before .before .before .before .before .before .before .before .before .before .before .before .before .before .before .before .before .before .before .before .args .limit)))
-crossing c = let r = c .before .before .before .before in let m = r .before .before .before .before .before .before .before .before .before .before .before .before in bounds _ _ _ _ (at (m .before .before .before .before .before .before .before .before .before .before)) _ _ (m .before .before .before .before .before .before .before .before .before .before .loop .inv) _ (m .before .before .before .before .before .before .before .before .before .before .before .before .before .before .bases .ensures) _ (live (m .before .before .before .before .before .before .before .before .before)) _ _ (m .run-local .ensures .0) (m .run-local .ensures .1) _ (r .rest .ensures) (c .enum-told .given .1)
+    (r .resume .result .row < 8) × ((r .resume .result .depth ≤ 8) × ((r .before .before .before .before .before .before .before .before .before .before .before .before .before .before .before .before .before .before .before .before .before .before .loop .n < r .resume .result .count) × (r .resume .result .count ≤ r .before .before .before .before .before .before .before .before .before .before .before .before .before .before .before .before .before .before .before .before .before .before .before .before .before .before .before .before .before .before .before .args .limit)))
+crossing c = let r = c .before .before .before .before in let m = r .before .before .before .before .before .before .before .before .before .before .before .before in bounds _ _ _ _ (at (m .before .before .before .before .before .before .before .before .before .before)) _ _ (m .before .before .before .before .before .before .before .before .before .before .loop .inv) _ (m .before .before .before .before .before .before .before .before .before .before .before .before .before .before .bases .ensures) _ (live (m .before .before .before .before .before .before .before .before .before)) _ _ (m .run-local .ensures .0) (m .run-local .ensures .1) _ (r .resume .ensures) (c .enum-told .given .1)
 
 cast-row : tie.Need-cast-row Inv-loop μ-loop
 cast-row c = omega (arith, crossing (c .before .before) .0)
@@ -95,13 +95,13 @@ returns : tie.Need-returns Inv-loop μ-loop
 returns c =
     let r = c .before .before .before .before .before .before .before .before in
     let m = r .before .before .before .before .before .before .before .before .before .before .before .before in
-    ap (λ (o : Outcome). ranAnswer o (m .run-local .last .1 .1 .1 .1 .1 .0)) (c .outcome .ensures) ∙ sym (crossed-so _ _ _ _ (at (m .before .before .before .before .before .before .before .before .before .before)) _ _ (m .before .before .before .before .before .before .before .before .before .before .loop .inv) _ (m .before .before .before .before .before .before .before .before .before .before .before .before .before .before .bases .ensures) _ (live (m .before .before .before .before .before .before .before .before .before)) _ _ (m .run-local .ensures .0) (m .run-local .ensures .1) _ (r .rest .ensures) (c .before .before .before .before .enum-told .given .1) (c .before .if1 .taken))
+    ap (λ (o : Outcome). ranAnswer o (m .run-local .last .1 .1 .1 .1 .1 .0)) (c .outcome .ensures) ∙ sym (crossed-so _ _ _ _ (at (m .before .before .before .before .before .before .before .before .before .before)) _ _ (m .before .before .before .before .before .before .before .before .before .before .loop .inv) _ (m .before .before .before .before .before .before .before .before .before .before .before .before .before .before .bases .ensures) _ (live (m .before .before .before .before .before .before .before .before .before)) _ _ (m .run-local .ensures .0) (m .run-local .ensures .1) _ (r .resume .ensures) (c .before .before .before .before .enum-told .given .1) (c .before .if1 .taken))
 
 loop-less : tie.Need-loop-less Inv-loop μ-loop
 loop-less c = omega (arith, crossing (c .before .before .before) .1 .1 .0, crossing (c .before .before .before) .1 .1 .1)
 
 loop-again : tie.Need-loop-again Inv-loop μ-loop
-loop-again c = let r = c .before .before .before .before .before .before .before in let m = r .before .before .before .before .before .before .before .before .before .before .before .before in goes-on _ _ _ _ (at (m .before .before .before .before .before .before .before .before .before .before)) _ _ (m .before .before .before .before .before .before .before .before .before .before .loop .inv) _ (m .before .before .before .before .before .before .before .before .before .before .before .before .before .before .bases .ensures) _ (live (m .before .before .before .before .before .before .before .before .before)) _ _ (m .run-local .ensures .0) (m .run-local .ensures .1) _ (r .rest .ensures) (c .before .before .before .enum-told .given .1) (c .if1 .left)
+loop-again c = let r = c .before .before .before .before .before .before .before in let m = r .before .before .before .before .before .before .before .before .before .before .before .before in goes-on _ _ _ _ (at (m .before .before .before .before .before .before .before .before .before .before)) _ _ (m .before .before .before .before .before .before .before .before .before .before .loop .inv) _ (m .before .before .before .before .before .before .before .before .before .before .before .before .before .before .bases .ensures) _ (live (m .before .before .before .before .before .before .before .before .before)) _ _ (m .run-local .ensures .0) (m .run-local .ensures .1) _ (r .resume .ensures) (c .before .before .before .enum-told .given .1) (c .if1 .left)
 
 outcome-requires-2 : tie.Need-outcome-requires-2 Inv-loop μ-loop
 outcome-requires-2 c κs = tt
@@ -114,7 +114,7 @@ returns-2 c =
     let r = c .before .before .before .before in
     let m = r .before .before .before .before .before .before .before .before .before .before .before .before in
     ap (λ (o : Outcome). ranAnswer o (m .run-local .last .1 .1 .1 .1 .1 .0)) (c .outcome2 .ensures)
-    ∙ sym (ends-so _ _ _ _ (at (m .before .before .before .before .before .before .before .before .before .before)) _ _ (m .before .before .before .before .before .before .before .before .before .before .loop .inv) _ (m .before .before .before .before .before .before .before .before .before .before .before .before .before .before .bases .ensures) _ (live (m .before .before .before .before .before .before .before .before .before)) _ _ (m .run-local .ensures .0) (m .run-local .ensures .1) (r .rest .result) (r .rest .ensures) (λ e. another (rw e at (c .before .match .keys2))))
+    ∙ sym (ends-so _ _ _ _ (at (m .before .before .before .before .before .before .before .before .before .before)) _ _ (m .before .before .before .before .before .before .before .before .before .before .loop .inv) _ (m .before .before .before .before .before .before .before .before .before .before .before .before .before .before .bases .ensures) _ (live (m .before .before .before .before .before .before .before .before .before)) _ _ (m .run-local .ensures .0) (m .run-local .ensures .1) (r .resume .result) (r .resume .ensures) (λ e. another (rw e at (c .before .match .keys2))))
 
 pub run-on-spec : {M : Type 1} → statement M
 run-on-spec =
@@ -128,7 +128,7 @@ run-on-spec =
     mul-frame
     array-copy-out-frame
     run-local-requires
-    rest-requires
+    resume-requires
     enum-told
     cast-row
     mul-frames

@@ -1,4 +1,4 @@
--- `runs::rest::rest` meets its contract.
+-- `runs::resume::resume` meets its contract.
 use Prim.Native.Nat.{ℕ}
 use native.Mathlib.Omega.{arith}
 use mathlib.Core.List.{List}
@@ -8,14 +8,14 @@ use Rattle.words.specs.declared.pointer.Pointer.{Pointer}
 use Rattle.state.specs.declared.record.Frame.{Frame}
 use Rattle.state.specs.declared.record.Registers.{Registers}
 use Rattle.instructions.specs.declared.cycle.Event.{Event}
-use Rattle.runs.specs.Rest.{Countable, restAnswer, restAfter, restOf}
-use Rattle.runs.proofs.rest.rest.Statement.{statement}
-use Rattle.runs.proofs.rest.rest.Tie as tie
+use Rattle.runs.specs.Resume.{Countable, resumeAnswer, resumeAfter, resumeOf}
+use Rattle.runs.proofs.resume.resume.Statement.{statement}
+use Rattle.runs.proofs.resume.resume.Tie as tie
 
--- the rest at an event that is known to be another
+-- how a run resumes at an event that is known to be another
 told : (lengths rights bases gatedomains stacks words : List ℕ) (depth : ℕ) (frame : Frame) (r : Registers) (pointers : List Pointer) (n : ℕ) {e x : Event} → e ≡ x
-    → restOf lengths rights bases gatedomains stacks words depth frame r pointers n x ≡ restOf lengths rights bases gatedomains stacks words depth frame r pointers n e
-told lengths rights bases gatedomains stacks words depth frame r pointers n h = ap (restOf lengths rights bases gatedomains stacks words depth frame r pointers n) (sym h)
+    → resumeOf lengths rights bases gatedomains stacks words depth frame r pointers n x ≡ resumeOf lengths rights bases gatedomains stacks words depth frame r pointers n e
+told lengths rights bases gatedomains stacks words depth frame r pointers n h = ap (resumeOf lengths rights bases gatedomains stacks words depth frame r pointers n) (sym h)
 
 -- what may be counted at an event that is known to be another
 counts : (n : ℕ) {e x : Event} → e ≡ x → Countable n e → Countable n x
@@ -27,11 +27,11 @@ enum-known-event c = search needs
 enter-requires : tie.Need-enter-requires
 enter-requires c κs = search needs
 
-add-crossed-rest : tie.Need-add-crossed-rest
-add-crossed-rest c = search needs
+add-resume-crossed : tie.Need-add-resume-crossed
+add-resume-crossed c = search needs
 
-crossed-rest-requires : tie.Need-crossed-rest-requires
-crossed-rest-requires c κs = counts _ (c .before .before .event .given .1) (c .before .before .before .before .before .pre .0)
+resume-crossed-requires : tie.Need-resume-crossed-requires
+resume-crossed-requires c κs = counts _ (c .before .before .event .given .1) (c .before .before .before .before .before .pre .0)
 
 enum-known-event-2 : tie.Need-enum-known-event-2
 enum-known-event-2 c = search needs
@@ -42,8 +42,8 @@ leave-requires c κs = search needs
 below-requires : tie.Need-below-requires
 below-requires c κs = search needs
 
-crossed-rest-requires-2 : tie.Need-crossed-rest-requires-2
-crossed-rest-requires-2 c κs = let e = c .before in counts _ (e .before .before .event2 .given .1) (e .before .before .before .before .before .pre .0)
+resume-crossed-requires-2 : tie.Need-resume-crossed-requires-2
+resume-crossed-requires-2 c κs = let e = c .before in counts _ (e .before .before .event2 .given .1) (e .before .before .before .before .before .pre .0)
 
 enum-told : tie.Need-enum-told
 enum-told c = search needs
@@ -75,38 +75,38 @@ stop-requires-4 c κs = search needs
 returns : tie.Need-returns
 returns c =
     let e = c .before in
-    c .crossed-rest .ensures ∙ ap (restAfter _ _ _ _ _) (e .enter .ensures) ∙ told _ _ _ _ _ _ _ _ _ _ _ (e .before .before .event .given .1)
+    c .resume-crossed .ensures ∙ ap (resumeAfter _ _ _ _ _) (e .enter .ensures) ∙ told _ _ _ _ _ _ _ _ _ _ _ (e .before .before .event .given .1)
 
 returns-2 : tie.Need-returns-2
 returns-2 c =
     let b = c .before in
     let e = b .before in
-    rw (b .below .ensures) at (c .crossed-rest2 .ensures) ∙ ap (restAfter _ _ _ _ _) (e .leave .ensures) ∙ told _ _ _ _ _ _ _ _ _ _ _ (e .before .before .event2 .given .1)
+    rw (b .below .ensures) at (c .resume-crossed2 .ensures) ∙ ap (resumeAfter _ _ _ _ _) (e .leave .ensures) ∙ told _ _ _ _ _ _ _ _ _ _ _ (e .before .before .event2 .given .1)
 
 returns-3 : tie.Need-returns-3
-returns-3 c = ap restAnswer (c .stop .ensures) ∙ told _ _ _ _ _ _ _ _ _ _ _ (c .before .enum-told .given .1)
+returns-3 c = ap resumeAnswer (c .stop .ensures) ∙ told _ _ _ _ _ _ _ _ _ _ _ (c .before .enum-told .given .1)
 
 returns-4 : tie.Need-returns-4
-returns-4 c = ap restAnswer (c .stop2 .ensures) ∙ told _ _ _ _ _ _ _ _ _ _ _ (c .before .before .event3 .given .1)
+returns-4 c = ap resumeAnswer (c .stop2 .ensures) ∙ told _ _ _ _ _ _ _ _ _ _ _ (c .before .before .event3 .given .1)
 
 returns-5 : tie.Need-returns-5
-returns-5 c = ap restAnswer (c .stop3 .ensures) ∙ told _ _ _ _ _ _ _ _ _ _ _ (c .before .enum-told2 .given .1)
+returns-5 c = ap resumeAnswer (c .stop3 .ensures) ∙ told _ _ _ _ _ _ _ _ _ _ _ (c .before .enum-told2 .given .1)
 
 returns-6 : tie.Need-returns-6
-returns-6 c = ap restAnswer (c .stop4 .ensures) ∙ told _ _ _ _ _ _ _ _ _ _ _ (c .before .before .event4 .given .1)
+returns-6 c = ap resumeAnswer (c .stop4 .ensures) ∙ told _ _ _ _ _ _ _ _ _ _ _ (c .before .before .event4 .given .1)
 
-pub rest-spec : {M : Type 1} → statement M
-rest-spec =
+pub resume-spec : {M : Type 1} → statement M
+resume-spec =
     tie.close
     (tie.spec
     enum-known-event
     enter-requires
-    add-crossed-rest
-    crossed-rest-requires
+    add-resume-crossed
+    resume-crossed-requires
     enum-known-event-2
     leave-requires
     below-requires
-    crossed-rest-requires-2
+    resume-crossed-requires-2
     enum-told
     stop-requires
     enum-known-event-3

@@ -2,7 +2,7 @@
 ghost use mathlib.Core.Path.{_≡_};
 ghost use Prim.Native.Nat.{_<_, _≤_, _-_};
 ghost use Rattle.crossings.specs.Crossing.{crossedAnswer};
-ghost use Rattle.runs.specs.Rest.{endAnswer, ends, restAnswer, restAfter, restOf, Countable};
+ghost use Rattle.runs.specs.Resume.{endAnswer, ends, resumeAnswer, resumeAfter, resumeOf, Countable};
 use crate::outcome::End;
 use crossings::crossing::Crossed;
 use crossings::crossing::enter;
@@ -49,7 +49,7 @@ fn stop(frame: Frame, r: Registers, pointers: [Pointer; 8], n: u16, depth: u8, e
 }
 
 // A crossing that was made or refused after n instructions.
-fn crossed_rest(
+fn resume_crossed(
     c: Crossed,
     r: Registers,
     pointers: [Pointer; 8],
@@ -58,7 +58,7 @@ fn crossed_rest(
     depth: u8,
 ) -> Crossing
     requires { ⌜ n < 65535 ⌝ }
-    ensures { λ x. ⌜ restAnswer x ≡ restAfter r pointers n row depth (crossedAnswer c) ⌝ }
+    ensures { λ x. ⌜ resumeAnswer x ≡ resumeAfter r pointers n row depth (crossedAnswer c) ⌝ }
 {
     let frame = c.frame;
     if c.refused {
@@ -86,8 +86,8 @@ fn crossed_rest(
     }
 }
 
-// The rest after n instructions and a local run that pauses at an event.
-pub fn rest<'a>(
+// What a run resumes as after n instructions and a local run that pauses at an event.
+pub fn resume<'a>(
     lengths: &'a [u16; 16],
     rights: &'a [u8; 128],
     bases: &'a [u32; 16],
@@ -103,7 +103,7 @@ pub fn rest<'a>(
 ) -> Crossing
     requires { ⌜ Countable n event ⌝ }
     requires { ⌜ depth ≤ 8 ⌝ }
-    ensures { λ c. ⌜ restAnswer c ≡ restOf (now (lengths .entry)) (now (rights .entry)) (now (bases .entry)) (now (gatedomains .entry)) (now (stacks .entry)) (now (words .entry)) depth frame r pointers n event ⌝ }
+    ensures { λ c. ⌜ resumeAnswer c ≡ resumeOf (now (lengths .entry)) (now (rights .entry)) (now (bases .entry)) (now (gatedomains .entry)) (now (stacks .entry)) (now (words .entry)) depth frame r pointers n event ⌝ }
 {
     match event {
         Event::Entering(p) => {
@@ -120,12 +120,12 @@ pub fn rest<'a>(
                 pointers,
                 p,
             );
-            crossed_rest(c, r, pointers, n, depth, depth + 1)
+            resume_crossed(c, r, pointers, n, depth, depth + 1)
         }
         Event::Leaving(p) => {
             let c = leave(lengths, rights, stacks, depth, frame, r, pointers, p);
             let less = below(depth);
-            crossed_rest(c, r, pointers, n, less, less)
+            resume_crossed(c, r, pointers, n, less, less)
         }
         Event::Moved => stop(frame, r, pointers, n, depth, End::Spent),
         Event::Pointed(i, p) => stop(frame, r, pointers, n, depth, End::Spent),

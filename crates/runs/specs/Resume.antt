@@ -17,7 +17,7 @@ use Rattle.crossings.specs.Crossing.{Changes, enterParts, leaveCheck, leavePart
 use Rattle.runs.specs.declared.outcome.End.{End}
 use Rattle.runs.specs.declared.outcome.End.the-variants as end
 use Rattle.runs.specs.declared.outcome.Outcome.{Outcome}
-use Rattle.runs.specs.declared.rest.Crossing.{Crossing}
+use Rattle.runs.specs.declared.resume.Crossing.{Crossing}
 use Rattle.runs.specs.Run.{Ending, halted, spent, crossed, faulted, refused, Ran, ran, runFrom}
 
 -- what the code's answers stand for
@@ -32,19 +32,19 @@ abbrev pub ranAnswer : Outcome → List ℕ → Ran
 ranAnswer o words = ran (o .machine) words (o .count) (endAnswer (o .end))
 
 -- the count, then for a crossing the row that its frame goes into and the frames in use after it
-pub data Rest : Type 0 where
-  ends : Registers → List Pointer → ℕ → Ending → Rest
-  goes : ℕ → ℕ → ℕ → Changes → Rest
+pub data Resumed : Type 0 where
+  ends : Registers → List Pointer → ℕ → Ending → Resumed
+  goes : ℕ → ℕ → ℕ → Changes → Resumed
 
-abbrev pub restBy : Crossing → End → Rest
-restBy c end.Halted = ends (c .registers) (c .pointers) (c .count) halted
-restBy c (end.Faulted n) = ends (c .registers) (c .pointers) (c .count) (faulted n)
-restBy c end.Spent = ends (c .registers) (c .pointers) (c .count) spent
-restBy c end.Crossed = goes (c .count) (c .row) (c .depth) (record { frame = c .frame; pointers = c .pointers; registers = c .registers })
-restBy c (end.Refused n) = ends (c .registers) (c .pointers) (c .count) (refused n)
+abbrev pub resumeBy : Crossing → End → Resumed
+resumeBy c end.Halted = ends (c .registers) (c .pointers) (c .count) halted
+resumeBy c (end.Faulted n) = ends (c .registers) (c .pointers) (c .count) (faulted n)
+resumeBy c end.Spent = ends (c .registers) (c .pointers) (c .count) spent
+resumeBy c end.Crossed = goes (c .count) (c .row) (c .depth) (record { frame = c .frame; pointers = c .pointers; registers = c .registers })
+resumeBy c (end.Refused n) = ends (c .registers) (c .pointers) (c .count) (refused n)
 
-abbrev pub restAnswer : Crossing → Rest
-restAnswer c = restBy c (c .end)
+abbrev pub resumeAnswer : Crossing → Resumed
+resumeAnswer c = resumeBy c (c .end)
 
 -- what may be counted after n instructions: one that is completed has a number of 16 bits
 abbrev pub Countable : ℕ → Event → Type 0
@@ -56,19 +56,19 @@ Countable n (event.Entering p) = n < 65535
 Countable n (event.Leaving p) = n < 65535
 
 -- after a crossing's answer; one that faults is not counted
-abbrev pub restAfter : Registers → List Pointer → ℕ → ℕ → ℕ → Answer Changes → Rest
-restAfter r pointers n row depth (refuse f) = ends r pointers n (faulted f)
-restAfter r pointers n row depth (ok changes) = goes (n + 1) row depth changes
+abbrev pub resumeAfter : Registers → List Pointer → ℕ → ℕ → ℕ → Answer Changes → Resumed
+resumeAfter r pointers n row depth (refuse f) = ends r pointers n (faulted f)
+resumeAfter r pointers n row depth (ok changes) = goes (n + 1) row depth changes
 
 -- after n instructions and a local run that pauses at an event; where that is no pause, the limit is reached
-abbrev pub restOf : List ℕ → List ℕ → List ℕ → List ℕ → List ℕ → List ℕ → ℕ → Frame → Registers → List Pointer → ℕ → Event → Rest
-restOf lengths rights bases gatedomains stacks words depth frame r pointers n event.Moved = ends r pointers n spent
-restOf lengths rights bases gatedomains stacks words depth frame r pointers n (event.Pointed i p) = ends r pointers n spent
-restOf lengths rights bases gatedomains stacks words depth frame r pointers n event.Halted = ends r pointers (n + 1) halted
-restOf lengths rights bases gatedomains stacks words depth frame r pointers n (event.Faulted f) = ends r pointers n (faulted f)
-restOf lengths rights bases gatedomains stacks words depth frame r pointers n (event.Entering p) =
-    restAfter r pointers n depth (depth + 1)
+abbrev pub resumeOf : List ℕ → List ℕ → List ℕ → List ℕ → List ℕ → List ℕ → ℕ → Frame → Registers → List Pointer → ℕ → Event → Resumed
+resumeOf lengths rights bases gatedomains stacks words depth frame r pointers n event.Moved = ends r pointers n spent
+resumeOf lengths rights bases gatedomains stacks words depth frame r pointers n (event.Pointed i p) = ends r pointers n spent
+resumeOf lengths rights bases gatedomains stacks words depth frame r pointers n event.Halted = ends r pointers (n + 1) halted
+resumeOf lengths rights bases gatedomains stacks words depth frame r pointers n (event.Faulted f) = ends r pointers n (faulted f)
+resumeOf lengths rights bases gatedomains stacks words depth frame r pointers n (event.Entering p) =
+    resumeAfter r pointers n depth (depth + 1)
     (enterParts gatedomains stacks r pointers p
     (frameOf (readOf lengths rights bases words (r .domain) depth frame) (getD pointers 0 noPointer) (getD pointers 1 noPointer) (r .domain) depth frame))
-restOf lengths rights bases gatedomains stacks words depth frame r pointers n (event.Leaving p) =
-    restAfter r pointers n (depth - 1) (depth - 1) (leaveParts stacks r pointers p frame (leaveCheck lengths rights depth frame (getD pointers 1 noPointer) p))
+resumeOf lengths rights bases gatedomains stacks words depth frame r pointers n (event.Leaving p) =
+    resumeAfter r pointers n (depth - 1) (depth - 1) (leaveParts stacks r pointers p frame (leaveCheck lengths rights depth frame (getD pointers 1 noPointer) p))
