@@ -4,13 +4,13 @@ use std::path::Path;
 
 fn main() {
     let folder = Path::new(env!("CARGO_MANIFEST_DIR")).join("../../target/staticlib");
-    let library = folder.join("libprobe.a");
+    let library = folder.join("libhost.a");
     println!("cargo:rerun-if-changed={}", folder.display());
     println!("cargo:rerun-if-changed={}", library.display());
     println!("cargo:rustc-check-cfg=cfg(library_missing)");
     if library.is_file() {
         println!("cargo:rustc-link-search=native={}", folder.display());
-        println!("cargo:rustc-link-lib=static=probe");
+        println!("cargo:rustc-link-lib=static=host");
     } else {
         println!("cargo:rustc-cfg=library_missing");
     }

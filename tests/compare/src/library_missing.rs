@@ -2,7 +2,7 @@
 
 use crate::references::Reference;
 
-const MISSING: &str = "target/staticlib/libprobe.a is missing: run `rt staticlib probe` first";
+const MISSING: &str = "target/staticlib/libhost.a is missing: run `rt staticlib host` first";
 
 /// Whether the library is linked; it isn't.
 pub fn linked() -> Result<(), String> {

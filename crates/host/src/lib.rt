@@ -4,7 +4,7 @@ pub mod run_machine;
 pub mod write_image;
 
 ghost use mathlib.Core.Path.{_≡_};
-ghost use Rattle.probe.specs.Check.{accessOf, checkOf};
+ghost use Rattle.host.specs.Check.{accessOf, checkOf};
 use checks::reference::check_reference;
 use references::flag::Access;
 use references::reference::IndexAnswer;

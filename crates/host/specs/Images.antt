@@ -11,7 +11,7 @@ use Rattle.image.specs.Image.{Image}
 use Rattle.image_reader.specs.Reader.{readOf, machineAfter, memoryAfter, mapped}
 use Rattle.image_writer.specs.Writer.{writeOf, outputAfter}
 use Rattle.image_reader.specs.declared.ReadAnswer.{ReadAnswer}
-use Rattle.probe.specs.Check.{codeOf}
+use Rattle.host.specs.Check.{codeOf}
 
 -- the image, or the refusal; 8, where a record has no room, comes first
 abbrev pub imageRead : List ℕ → List ℕ → List ℕ → Answer Image

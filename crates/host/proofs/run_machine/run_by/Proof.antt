@@ -1,9 +1,9 @@
--- `probe::run_machine::run_by` meets its contract.
+-- `host::run_machine::run_by` meets its contract.
 use mathlib.Core.Path.{_≡_, refl}
 use borrow.Author.Needs.{needs}
-use Rattle.probe.specs.Runs.{ranBy}
-use Rattle.probe.proofs.run_machine.run_by.Statement.{statement}
-use Rattle.probe.proofs.run_machine.run_by.Tie as tie
+use Rattle.host.specs.Runs.{ranBy}
+use Rattle.host.proofs.run_machine.run_by.Statement.{statement}
+use Rattle.host.proofs.run_machine.run_by.Tie as tie
 
 stretch-requires : tie.Need-stretch-requires
 stretch-requires c κs = search needs

@@ -1,11 +1,11 @@
--- `probe::read_image::zenkorv_read` meets its contract.
+-- `host::read_image::zenkorv_read` meets its contract.
 use mathlib.Core.Path.{ap, _∙_}
 use borrow.Author.Needs.{needs}
 use Rattle.state.specs.declared.record.Machine.{Machine}
 use Rattle.image_reader.specs.Reader.{readOf, machineAfter}
-use Rattle.probe.proofs.Reading.{without-room, with-room}
-use Rattle.probe.proofs.read_image.zenkorv_read.Statement.{statement}
-use Rattle.probe.proofs.read_image.zenkorv_read.Tie as tie
+use Rattle.host.proofs.Reading.{without-room, with-room}
+use Rattle.host.proofs.read_image.zenkorv_read.Statement.{statement}
+use Rattle.host.proofs.read_image.zenkorv_read.Tie as tie
 
 returns : tie.Need-returns
 returns c = let a = c .before .before .before .before .args in without-room (a .image .now) (a .bytes .now) (a .words .now) (c .if1 .taken)

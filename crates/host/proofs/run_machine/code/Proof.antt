@@ -1,14 +1,14 @@
--- `probe::run_machine::code` meets its contract.
+-- `host::run_machine::code` meets its contract.
 use mathlib.Core.Path.{_≡_, refl}
 use Prim.Native.Nat.{ℕ, _+_}
 use native.Mathlib.Omega.{arith}
 use Rattle.runs.specs.declared.outcome.End.{End}
 use Rattle.runs.specs.declared.outcome.End.the-variants as end
 use Rattle.runs.specs.Resume.{endAnswer}
-use Rattle.probe.specs.Runs.{endCode}
+use Rattle.host.specs.Runs.{endCode}
 use borrow.Author.Needs.{needs}
-use Rattle.probe.proofs.run_machine.code.Statement.{statement}
-use Rattle.probe.proofs.run_machine.code.Tie as tie
+use Rattle.host.proofs.run_machine.code.Statement.{statement}
+use Rattle.host.proofs.run_machine.code.Tie as tie
 
 at-halt : (n : ℕ) {e : End} → e ≡ end.Halted → n ≡ endCode (endAnswer e) + n
 at-halt n h = rw h (let z : n ≡ 0 + n = omega arith in z)

@@ -1,13 +1,13 @@
--- `probe::write_image::zenkorv_write` meets its contract.
+-- `host::write_image::zenkorv_write` meets its contract.
 use native.Mathlib.Omega.{arith}
 use mathlib.Core.Path.{_≡_, ap, _∙_}
 use borrow.Author.Needs.{needs}
 use Rattle.state.specs.declared.record.Machine.{Machine}
 use Rattle.image_writer.specs.Writer.{writeOf, writtenOf, outputAfter}
-use Rattle.probe.specs.Images.{imageWritten, outputAfterWrite}
-use Rattle.probe.proofs.Writing.{code-accepted, code-refused, written-short}
-use Rattle.probe.proofs.write_image.zenkorv_write.Statement.{statement}
-use Rattle.probe.proofs.write_image.zenkorv_write.Tie as tie
+use Rattle.host.specs.Images.{imageWritten, outputAfterWrite}
+use Rattle.host.proofs.Writing.{code-accepted, code-refused, written-short}
+use Rattle.host.proofs.write_image.zenkorv_write.Statement.{statement}
+use Rattle.host.proofs.write_image.zenkorv_write.Tie as tie
 
 record-of-requires : tie.Need-record-of-requires
 record-of-requires c κs = search needs

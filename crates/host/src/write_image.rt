@@ -1,6 +1,6 @@
 // The writer of images, on the bytes of a record.
 ghost use mathlib.Core.Path.{_≡_};
-ghost use Rattle.probe.specs.Images.{writeCode, outputAfterWrite};
+ghost use Rattle.host.specs.Images.{writeCode, outputAfterWrite};
 use image_writer::write;
 use snapshot_reader::record_of;
 

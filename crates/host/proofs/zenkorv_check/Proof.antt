@@ -1,12 +1,12 @@
--- `probe::zenkorv_check` meets its contract.
+-- `host::zenkorv_check` meets its contract.
 use native.Mathlib.Omega.{arith}
 use mathlib.Core.Path.{sym, ap, _∙_}
 use borrow.Author.Needs.{needs}
 use Rattle.references.specs.Reference.{indexAnswer}
 use Rattle.checks.proofs.Judged.{judged-lt}
-use Rattle.probe.specs.Check.{checkOf}
-use Rattle.probe.proofs.zenkorv_check.Statement.{statement}
-use Rattle.probe.proofs.zenkorv_check.Tie as tie
+use Rattle.host.specs.Check.{checkOf}
+use Rattle.host.proofs.zenkorv_check.Statement.{statement}
+use Rattle.host.proofs.zenkorv_check.Tie as tie
 
 record-of-requires : tie.Need-record-of-requires
 record-of-requires c κs = search needs

@@ -11,7 +11,7 @@ use Rattle.snapshot_writer.specs.Write.{writtenTo}
 use Rattle.runs.specs.declared.outcome.Outcome.{Outcome}
 use Rattle.runs.specs.Run.{Ran, ran, refused}
 use Rattle.runs.specs.Resume.{endAnswer, ranAnswer}
-use Rattle.probe.specs.Runs.{ranBy, ranOn, endCode, ranCode, bytesAfter}
+use Rattle.host.specs.Runs.{ranBy, ranOn, endCode, ranCode, bytesAfter}
 
 module _ (bytes words : List ℕ) (limit stretch : ℕ) where
   -- a number, a record and words are those that a run gives

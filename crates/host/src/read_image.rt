@@ -1,6 +1,6 @@
 // The reader of images, on the bytes of a record.
 ghost use mathlib.Core.Path.{_≡_};
-ghost use Rattle.probe.specs.Images.{readNumber, recordAfterRead, wordsAfterRead};
+ghost use Rattle.host.specs.Images.{readNumber, recordAfterRead, wordsAfterRead};
 use image_reader::read;
 use snapshot_reader::record_of;
 use snapshot_writer::bytes_of;

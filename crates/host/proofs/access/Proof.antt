@@ -1,7 +1,7 @@
--- `probe::access` meets its contract.
+-- `host::access` meets its contract.
 use borrow.Author.Tests.{eq-eqb, ne-eqb}
-use Rattle.probe.proofs.access.Statement.{statement}
-use Rattle.probe.proofs.access.Tie as tie
+use Rattle.host.proofs.access.Statement.{statement}
+use Rattle.host.proofs.access.Tie as tie
 
 returns : tie.Need-returns
 returns c = simp (eq-eqb _ _ (c .if1 .taken))

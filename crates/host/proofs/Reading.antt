@@ -10,7 +10,7 @@ use Rattle.snapshot_writer.specs.Write.{writtenTo}
 use Rattle.image.specs.Image.{Image}
 use Rattle.image_reader.specs.Reader.{readOf, machineAfter, memoryAfter}
 use Rattle.image_reader.specs.declared.ReadAnswer.{ReadAnswer}
-use Rattle.probe.specs.Images.{imageRead, readNumber, recordAfterRead, wordsAfterRead}
+use Rattle.host.specs.Images.{imageRead, readNumber, recordAfterRead, wordsAfterRead}
 
 module _ (image bytes words : List ℕ) where
   -- a number, a record and words are those that a read gives

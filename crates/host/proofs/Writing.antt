@@ -19,8 +19,8 @@ use Rattle.image_reader.specs.Reader.{mapped}
 use Rattle.image_writer.specs.Writer.{writeOf, writtenOf}
 use Rattle.image.proofs.Sizes.{image-size}
 use Rattle.image_writer.specs.declared.Written.{Written}
-use Rattle.probe.specs.Check.{codeOf}
-use Rattle.probe.specs.Images.{imageWritten, writeCode}
+use Rattle.host.specs.Check.{codeOf}
+use Rattle.host.specs.Images.{imageWritten, writeCode}
 
 -- the writer's answer, by its three tests
 abbrev tests : Bool → Bool → Bool → List ℕ → Answer (List ℕ)

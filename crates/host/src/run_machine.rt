@@ -2,7 +2,7 @@
 ghost use mathlib.Core.Path.{_≡_};
 ghost use Prim.Native.Nat.{_+_};
 ghost use Rattle.runs.specs.Resume.{endAnswer, ranAnswer};
-ghost use Rattle.probe.specs.Runs.{ranBy, ranOn, endCode, ranCode, bytesAfter};
+ghost use Rattle.host.specs.Runs.{ranBy, ranOn, endCode, ranCode, bytesAfter};
 use processor::run;
 use processor::stretch;
 use runs::outcome::End;
