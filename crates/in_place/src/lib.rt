@@ -1,7 +1,7 @@
 // The calls on a machine whose record is lent. Any record and any memory may be lent.
 ghost use mathlib.Core.Path.{_≡_};
 ghost use Rattle.processor.specs.Calls.{stepCall, runCall, stretchCall};
-ghost use Rattle.lent.specs.Lent.{lentStep, lentRan};
+ghost use Rattle.in_place.specs.InPlace.{stepInPlace, ranInPlace};
 use runs::outcome::End;
 use state::record::Machine;
 
@@ -18,7 +18,7 @@ pub struct RunResult {
 
 // One instruction.
 pub fn step(m: &mut Machine, words: &mut [u32]) -> StepResult
-    ensures { λ r. ⌜ lentStep (now (m .exit)) (now (words .exit)) r ≡ stepCall (now (m .entry)) (now (words .entry)) ⌝ }
+    ensures { λ r. ⌜ stepInPlace (now (m .exit)) (now (words .exit)) r ≡ stepCall (now (m .entry)) (now (words .entry)) ⌝ }
 {
     let s = processor::step(*m, words);
     *m = s.machine;
@@ -30,7 +30,7 @@ pub fn step(m: &mut Machine, words: &mut [u32]) -> StepResult
 
 // At most limit instructions.
 pub fn run(m: &mut Machine, words: &mut [u32], limit: u16) -> RunResult
-    ensures { λ r. ⌜ lentRan (now (m .exit)) (now (words .exit)) r ≡ runCall limit (now (m .entry)) (now (words .entry)) ⌝ }
+    ensures { λ r. ⌜ ranInPlace (now (m .exit)) (now (words .exit)) r ≡ runCall limit (now (m .entry)) (now (words .entry)) ⌝ }
 {
     let o = processor::run(*m, words, limit);
     *m = o.machine;
@@ -42,7 +42,7 @@ pub fn run(m: &mut Machine, words: &mut [u32], limit: u16) -> RunResult
 
 // At most limit instructions, up to and with the first completed crossing.
 pub fn stretch(m: &mut Machine, words: &mut [u32], limit: u16) -> RunResult
-    ensures { λ r. ⌜ lentRan (now (m .exit)) (now (words .exit)) r ≡ stretchCall limit (now (m .entry)) (now (words .entry)) ⌝ }
+    ensures { λ r. ⌜ ranInPlace (now (m .exit)) (now (words .exit)) r ≡ stretchCall limit (now (m .entry)) (now (words .entry)) ⌝ }
 {
     let o = processor::stretch(*m, words, limit);
     *m = o.machine;

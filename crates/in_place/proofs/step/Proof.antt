@@ -1,4 +1,4 @@
--- `lent::step` meets its contract: a walk of its MIR, by hand. The record's borrow is opened, the record is copied out and passed to `processor::step` (the callee) by value with the words lent on for good, the record that the callee returned is stored in the cell, and the borrow is closed at it.
+-- `in_place::step` meets its contract: a walk of its MIR, by hand. The record's borrow is opened, the record is copied out and passed to `processor::step` (the callee) by value with the words lent on for good, the record that the callee returned is stored in the cell, and the borrow is closed at it.
 -- All that the walk knows of the callee is that it meets its contract. Nothing here names a field of the record.
 -- Assumes nothing.
 use mathlib.Core.Path.{_≡_, refl, ap}
@@ -50,13 +50,13 @@ use Rattle.processor.proofs.step as callee
 use Rattle.processor.proofs.step.Symbol as callee-def
 use Rattle.processor.proofs.step.Symbol.{name as #callee}
 use Rattle.processor.proofs.step.Met as callee-thm
-use Rattle.lent.specs.declared.StepResult.{StepResult}
-use Rattle.lent.proofs.StepResult as R
-use Rattle.lent.proofs.StepResult.Laws as R′
-use Rattle.lent.proofs.step.Key.{name as #lent·step}
-use Rattle.lent.proofs.step as step
-use Rattle.lent.proofs.step.Statement as stated
-use Rattle.lent.proofs.step.Code as code
+use Rattle.in_place.specs.declared.StepResult.{StepResult}
+use Rattle.in_place.proofs.StepResult as R
+use Rattle.in_place.proofs.StepResult.Laws as R′
+use Rattle.in_place.proofs.step.Key.{name as #lent·step}
+use Rattle.in_place.proofs.step as step
+use Rattle.in_place.proofs.step.Statement as stated
+use Rattle.in_place.proofs.step.Code as code
 
 abbrev stayed : Stays (step.ended .signature .params) (step.ended .kept)
 stayed = (stay-ref (0 ∷ []) tt (plain (λ _. T.the-row)), (gave-slice (1 ∷ []) tt (plain (λ _. u32)), tt))

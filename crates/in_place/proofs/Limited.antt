@@ -1,4 +1,4 @@
--- `lent::run` and `lent::stretch` have the same MIR but for the function that they call, and the same contract but for the definition that it cites. This is the walk of both, by hand: f is the name of the callee, and Call the definition.
+-- `in_place::run` and `in_place::stretch` have the same MIR but for the function that they call, and the same contract but for the definition that it cites. This is the walk of both, by hand: f is the name of the callee, and Call the definition.
 -- The record's borrow is opened, the record is copied out and passed to the callee by value with the words lent on for good, the record that the callee returned is stored in the cell, and the borrow is closed at it. All that the walk knows of the callee is that it meets its contract.
 -- Assumes nothing.
 use mathlib.Core.Path.{_≡_, refl, ap}
@@ -48,11 +48,11 @@ use Rattle.runs.specs.declared.outcome.Outcome.{Outcome}
 use Rattle.runs.proofs.outcome.Outcome as S
 use Rattle.runs.proofs.outcome.Outcome.Laws as S′
 use Rattle.processor.proofs.run as callee
-use Rattle.lent.specs.Lent.{lentRan}
-use Rattle.lent.specs.declared.RunResult.{RunResult}
-use Rattle.lent.proofs.RunResult as R
-use Rattle.lent.proofs.RunResult.Laws as R′
-use Rattle.lent.proofs.run as lent
+use Rattle.in_place.specs.InPlace.{ranInPlace}
+use Rattle.in_place.specs.declared.RunResult.{RunResult}
+use Rattle.in_place.proofs.RunResult as R
+use Rattle.in_place.proofs.RunResult.Laws as R′
+use Rattle.in_place.proofs.run as lent
 
 -- the MIR of the function that calls f
 abbrev pub function : Name → Fn
@@ -78,7 +78,7 @@ abbrev pub Definition : Type 0
 Definition = ℕ → Machine → List ℕ → Ran
 
 abbrev pub Shown : Definition → (κs : Lfts 2) → Args lent.signature κs → RunResult → AtExit lent.ended κs → Type 0
-Shown Call κs a r e = lentRan (now (e .0)) (now (e .1 .0)) r ≡ Call (a .1 .1 .0) (now (a .0)) (now (a .1 .0))
+Shown Call κs a r e = ranInPlace (now (e .0)) (now (e .1 .0)) r ≡ Call (a .1 .1 .0) (now (a .0)) (now (a .1 .0))
 
 module _ {M : Type 1} (𝓤 : URA M) (Call : Definition) where
   abbrev callee-clauses : Clauses 𝓤 callee.ended
