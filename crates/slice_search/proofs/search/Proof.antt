@@ -1,4 +1,4 @@
--- `search::search` meets its contract.
+-- `slice_search::search` meets its contract.
 use Prim.Native.Nat.{ℕ, _<_}
 use native.Mathlib.Omega.{arith}
 use mathlib.Core.Path.{_≡_, sym, _∙_}
@@ -7,8 +7,8 @@ use borrow.Author.Needs.{needs}
 use lib.ListN.{length, take}
 use lib.Seq.{take-all}
 use Rattle.state.specs.declared.record.Capability.{Capability}
-use Rattle.search.proofs.search.Statement.{statement}
-use Rattle.search.proofs.search.Tie as tie
+use Rattle.slice_search.proofs.search.Statement.{statement}
+use Rattle.slice_search.proofs.search.Tie as tie
 
 -- a frame has nine rows
 rows : (s : tie.Start) → length (s .args .capabilities) ≡ 9

@@ -1,4 +1,4 @@
--- `search::hand_over` meets its contract: a walk of its MIR, by hand. The array lies in a local in memory; its first n elements are lent as a slice to `first`, for a lifetime that is made for the call, and come back.
+-- `slice_search::hand_over` meets its contract: a walk of its MIR, by hand. The array lies in a local in memory; its first n elements are lent as a slice to `first`, for a lifetime that is made for the call, and come back.
 -- All that the proof knows of `first` is that it meets its contract. Every parameter is plain data, so nothing is said of it at exit (`stay-dropped`).
 -- Assumes nothing.
 use mathlib.Core.Path.{_≡_, refl, sym}
@@ -56,17 +56,17 @@ use Rattle.capabilities.specs.Search.{coversOf, firstOf, capabilityAnswer}
 use Rattle.capabilities.specs.declared.CapabilityAnswer.{CapabilityAnswer}
 use Rattle.capabilities.proofs.CapabilityAnswer as F
 use Rattle.capabilities.proofs.CapabilityAnswer.Laws as F′
-use Rattle.search.proofs.Asked.{Values, Machines, Types, Fits, ask, machine, asks}
-use Rattle.search.proofs.Front.{array-in, array-room, after, front-out, front-in}
-use Rattle.search.proofs.Rules.{dropped}
-use Rattle.search.proofs.first as first
-use Rattle.search.proofs.first.Symbol as first-def
-use Rattle.search.proofs.first.Symbol.{name as #first}
-use Rattle.search.proofs.first.Met as first-thm
-use Rattle.search.proofs.hand_over.Key.{name as #hand-over}
-use Rattle.search.proofs.hand_over as hand
-use Rattle.search.proofs.hand_over.Statement as stated
-use Rattle.search.proofs.hand_over.Code as code
+use Rattle.slice_search.proofs.Asked.{Values, Machines, Types, Fits, ask, machine, asks}
+use Rattle.slice_search.proofs.Front.{array-in, array-room, after, front-out, front-in}
+use Rattle.slice_search.proofs.Rules.{dropped}
+use Rattle.slice_search.proofs.first as first
+use Rattle.slice_search.proofs.first.Symbol as first-def
+use Rattle.slice_search.proofs.first.Symbol.{name as #first}
+use Rattle.slice_search.proofs.first.Met as first-thm
+use Rattle.slice_search.proofs.hand_over.Key.{name as #hand-over}
+use Rattle.slice_search.proofs.hand_over as hand
+use Rattle.slice_search.proofs.hand_over.Statement as stated
+use Rattle.slice_search.proofs.hand_over.Code as code
 
 abbrev stayed : Stays (hand.ended .signature .params) (hand.ended .kept)
 stayed = (
@@ -205,4 +205,4 @@ hand-over-spec 𝓤 H 𝓜 𝓖 𝓡 =
     entered 𝓤 H (tripleOf 𝓤 H (𝓖 .A) hand.signature (hand.spec 𝓤 H (𝓖 .A) (𝓜 .mem) (𝓡 .run)))
     (tables 𝓤 H 𝓜 𝓡 code.env .C) (tables 𝓤 H 𝓜 𝓡 code.env .Λ) #hand-over code.function (code.unfolded 𝓤 H 𝓜 𝓡)
     (meets 𝓤 H (𝓖 .A) (givenOf 𝓤 H 𝓜 𝓖) (𝓜 .mem) (𝓡 .run) (tablesOf 𝓤 H 𝓜 (tables 𝓤 H 𝓜 𝓡 code.env))
-    (cited 𝓤 H (First 𝓤 H (𝓖 .A) (𝓜 .mem) (𝓡 .run)) 𝓜 𝓡 code.env #first first-def.routine code.calls-search·first (first-thm.met 𝓤 H 𝓜 𝓖 𝓡)))
+    (cited 𝓤 H (First 𝓤 H (𝓖 .A) (𝓜 .mem) (𝓡 .run)) 𝓜 𝓡 code.env #first first-def.routine code.calls-slice_search·first (first-thm.met 𝓤 H 𝓜 𝓖 𝓡)))

@@ -1,4 +1,4 @@
--- `search::first` meets its contract: a walk of its MIR, by hand, with a loop. Each turn looks into the slice, copies one capability out, and has `covers` judge it by value; all that the proof knows of `covers` is that it meets its contract.
+-- `slice_search::first` meets its contract: a walk of its MIR, by hand, with a loop. Each turn looks into the slice, copies one capability out, and has `covers` judge it by value; all that the proof knows of `covers` is that it meets its contract.
 -- The invariant: i capabilities are passed, none of which fits (`Passed.antt`). The variant is what is left.
 -- Assumes nothing.
 use mathlib.Core.Path.{_≡_, refl, sym, ap, _∙_}
@@ -61,14 +61,14 @@ use Rattle.capabilities.proofs.covers as covers
 use Rattle.capabilities.proofs.covers.Symbol as covers-def
 use Rattle.capabilities.proofs.covers.Symbol.{name as #covers}
 use Rattle.capabilities.proofs.covers.Met as covers-thm
-use Rattle.search.proofs.Asked.{Values, Machines, Types, Fits, ask, machine, asks}
-use Rattle.search.proofs.Passed.{Passed, hit, miss, none}
-use Rattle.search.proofs.Rules.{holds, fails, dropped, whiles, ifs}
-use Rattle.search.proofs.first.Key.{name as #first}
-use Rattle.search.proofs.first as search
-use Rattle.search.proofs.first.Statement as stated
-use Rattle.search.proofs.first.Code as code
-use Rattle.search.proofs.first.Code.Mir as Mir
+use Rattle.slice_search.proofs.Asked.{Values, Machines, Types, Fits, ask, machine, asks}
+use Rattle.slice_search.proofs.Passed.{Passed, hit, miss, none}
+use Rattle.slice_search.proofs.Rules.{holds, fails, dropped, whiles, ifs}
+use Rattle.slice_search.proofs.first.Key.{name as #first}
+use Rattle.slice_search.proofs.first as search
+use Rattle.slice_search.proofs.first.Statement as stated
+use Rattle.slice_search.proofs.first.Code as code
+use Rattle.slice_search.proofs.first.Code.Mir as Mir
 
 abbrev stayed : Stays (search.ended .signature .params) (search.ended .kept)
 stayed = (
