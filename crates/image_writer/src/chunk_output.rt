@@ -3,7 +3,7 @@ ghost use mathlib.Core.Path.{_≡_};
 ghost use mathlib.Core.Bool.{true};
 ghost use Prim.Native.Nat.{_+_, _*_, _≤_, _<_};
 ghost use lib.ListN.{length, take, drop};
-ghost use Rattle.layouts.specs.SoundLayout.{layoutTest};
+ghost use Rattle.layout_soundness.specs.SoundLayout.{layoutTest};
 ghost use Rattle.image.specs.Head.{headBytes};
 ghost use Rattle.image.specs.Segment.{segmentBytes, segmentsBytes};
 ghost use Rattle.image.specs.Domain.{domainBytes, domainsBytes};

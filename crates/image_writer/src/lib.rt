@@ -7,7 +7,7 @@ ghost use mathlib.Core.Bool.{true};
 ghost use mathlib.Core.List.{_++_};
 ghost use Prim.Native.Nat.{_≤_};
 ghost use lib.ListN.{length, drop};
-ghost use Rattle.layouts.specs.SoundLayout.{layoutTest};
+ghost use Rattle.layout_soundness.specs.SoundLayout.{layoutTest};
 ghost use Rattle.image.specs.Image.{imageFrom, bytesOf};
 ghost use Rattle.image_writer.specs.Writer.{writeOf, writtenOf, outputAfter};
 use crate::chunk_output::put_domains;

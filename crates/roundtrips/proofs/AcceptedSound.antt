@@ -10,11 +10,11 @@ use lib.Seq.{getD-append-add, take-all}
 use borrow.Author.Tests.{lt-ltb, le-leb, eq-eqb, ltb-true, ltb-false, leb-true}
 use Rattle.words.specs.Answer.{ok}
 use Rattle.state.specs.Bases.{total, baseOf, wordsIn}
-use Rattle.layouts.specs.SoundLayout.{between, segmentTest, stackTest, rightsTest, startTest, layoutTest}
+use Rattle.layout_soundness.specs.SoundLayout.{between, segmentTest, stackTest, rightsTest, startTest, layoutTest}
 use Rattle.soundness.specs.Sound.{soundTest}
 use Rattle.fresh.specs.Fresh.{freshOf}
-use Rattle.layouts.proofs.Tests.{join, inside, both, either-part}
-use Rattle.layouts.proofs.All.{all}
+use Rattle.layout_soundness.proofs.Tests.{join, inside, both, either-part}
+use Rattle.layout_soundness.proofs.All.{all}
 use Rattle.soundness.proofs.FreshSound.{fresh-sound}
 use Rattle.image.specs.Bytes.{joined}
 use Rattle.image.specs.Segment.{Segment, allWords}

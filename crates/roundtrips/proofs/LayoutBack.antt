@@ -12,9 +12,9 @@ use borrow.Author.Tests.{le-ltb, le-leb, ltb-true, ltb-false, eqb-true}
 use Rattle.state.specs.declared.record.Layout.{Layout}
 use Rattle.state.specs.Bases.{baseOf, wordsIn}
 use Rattle.state.proofs.Sums.{base-next, base-zero}
-use Rattle.layouts.specs.SoundLayout.{allFrom, between, segmentTest, stackTest, rightsTest, layoutTest}
-use Rattle.layouts.proofs.Tests.{join, both, else-part}
-use Rattle.layouts.proofs.All.{each}
+use Rattle.layout_soundness.specs.SoundLayout.{allFrom, between, segmentTest, stackTest, rightsTest, layoutTest}
+use Rattle.layout_soundness.proofs.Tests.{join, both, else-part}
+use Rattle.layout_soundness.proofs.All.{each}
 use Rattle.soundness.proofs.Facts.{LayoutSound}
 use Rattle.image.specs.Bytes.{joined}
 use Rattle.image.specs.Segment.{Segment, allWords}

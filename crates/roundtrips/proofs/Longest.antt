@@ -8,7 +8,7 @@ use lib.ListN.{length, getD, replicate, length-replicate}
 use Rattle.words.specs.Answer.{ok}
 use Rattle.state.specs.declared.record.Layout.{Layout}
 use Rattle.state.specs.Bases.{baseOf}
-use Rattle.layouts.specs.SoundLayout.{allFrom, segmentTest, stackTest, rightsTest, startTest, layoutTest}
+use Rattle.layout_soundness.specs.SoundLayout.{allFrom, segmentTest, stackTest, rightsTest, startTest, layoutTest}
 use Rattle.soundness.proofs.Facts.{LayoutSound, layout-facts}
 use Rattle.image.specs.Image.{imageOf, imageFrom, bytesOf}
 use Rattle.image.proofs.Sizes.{image-size}

@@ -16,10 +16,10 @@ use Rattle.state.specs.declared.record.Registers.{Registers}
 use Rattle.state.specs.declared.record.Machine.{Machine}
 use Rattle.state.specs.Bases.{wordsIn}
 use Rattle.state.specs.Record.{noPointer, noCapability, noFrame}
-use Rattle.layouts.specs.SoundLayout.{allFrom, between, layoutTest, segmentTest, stackTest, rightsTest, startTest}
+use Rattle.layout_soundness.specs.SoundLayout.{allFrom, between, layoutTest, segmentTest, stackTest, rightsTest, startTest}
 use Rattle.soundness.specs.Sound.{registersTest, pointerTest, pointersTest, capabilityTest, emptyCapability, emptyFrame, frameTest, framesTest, soundTest}
-use Rattle.layouts.proofs.Tests.{both, join, bounds, inside, then-part, else-part, either-part}
-use Rattle.layouts.proofs.All.{each, all}
+use Rattle.layout_soundness.proofs.Tests.{both, join, bounds, inside, then-part, else-part, either-part}
+use Rattle.layout_soundness.proofs.All.{each, all}
 
 pub record RegistersSound (domains : ℕ) (r : Registers) : Type 0 where
   pub domain : r .domain < domains

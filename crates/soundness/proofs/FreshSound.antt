@@ -7,10 +7,10 @@ use borrow.Author.Tests.{le-leb}
 use lib.ListN.{replicate, set}
 use Rattle.state.specs.declared.record.Layout.{Layout}
 use Rattle.state.specs.Record.{noPointer}
-use Rattle.layouts.specs.SoundLayout.{allFrom, layoutTest}
+use Rattle.layout_soundness.specs.SoundLayout.{allFrom, layoutTest}
 use Rattle.soundness.specs.Sound.{pointerTest, pointersTest, emptyCapability, emptyPointer, emptyFrame, framesTest, soundTest}
 use Rattle.fresh.specs.Fresh.{zeroFrame, freshOf}
-use Rattle.layouts.proofs.Tests.{join}
+use Rattle.layout_soundness.proofs.Tests.{join}
 use Rattle.soundness.proofs.Facts.{layout-facts, facts-registers}
 
 pub zero-frame : emptyFrame zeroFrame ≡ true

@@ -11,7 +11,7 @@ use Rattle.state.specs.declared.record.Frame.{Frame}
 use Rattle.state.specs.declared.record.Registers.{Registers}
 use Rattle.state.specs.declared.record.Machine.{Machine}
 use Rattle.state.specs.Record.{noPointer, noCapability, noFrame}
-use Rattle.layouts.specs.SoundLayout.{allFrom, between, layoutTest}
+use Rattle.layout_soundness.specs.SoundLayout.{allFrom, between, layoutTest}
 
 -- the executing domain exists; the location's segment need not, and its word is 0-4,096
 unfoldable pub registersTest : ℕ → Registers → Bool

@@ -5,7 +5,7 @@ ghost use lib.Dec.{ltb};
 ghost use lib.ListN.{getD};
 ghost use Rattle.words.specs.Answer.{if_then_else_};
 ghost use Rattle.state.specs.Record.{noCapability};
-ghost use Rattle.layouts.specs.SoundLayout.{allFrom};
+ghost use Rattle.layout_soundness.specs.SoundLayout.{allFrom};
 ghost use Rattle.soundness.specs.Sound.{capabilityTest, emptyCapability};
 use state::record::Capability;
 

@@ -8,7 +8,7 @@ ghost use Rattle.soundness.specs.Sound.{soundTest};
 use crate::frames::frames_sound;
 use crate::registers::pointers_sound;
 use crate::registers::registers_sound;
-use layouts::layout_sound;
+use layout_soundness::layout_sound;
 use state::record::Machine;
 
 // Whether a record is sound, for any record.

@@ -1,7 +1,7 @@
 -- `segments::judge` meets its contract.
 use borrow.Author.Needs.{needs}
 use borrow.Author.Tests.{le-leb, lt-leb, le-ltb, lt-ltb}
-use Rattle.layouts.proofs.Tests.{answered-true, answered-false}
+use Rattle.layout_soundness.proofs.Tests.{answered-true, answered-false}
 use Rattle.segments.specs.Segment.{segmentCheck}
 use Rattle.segments.proofs.judge.Statement.{statement}
 use Rattle.segments.proofs.judge.Tie as tie

@@ -1,7 +1,7 @@
 -- `soundness::sound` meets its contract.
 use borrow.Author.Needs.{needs}
 use Rattle.soundness.specs.Sound.{soundTest}
-use Rattle.layouts.proofs.Tests.{pass, stop, answered-true, answered-false}
+use Rattle.layout_soundness.proofs.Tests.{pass, stop, answered-true, answered-false}
 use Rattle.soundness.proofs.sound.Statement.{statement}
 use Rattle.soundness.proofs.sound.Tie as tie
 

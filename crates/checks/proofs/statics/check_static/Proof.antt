@@ -1,6 +1,6 @@
 -- `checks::statics::check_static` meets its contract.
 use borrow.Author.Needs.{needs}
-use Rattle.layouts.proofs.Tests.{answered-true, answered-false}
+use Rattle.layout_soundness.proofs.Tests.{answered-true, answered-false}
 use Rattle.references.specs.Check.{staticCheck}
 use Rattle.checks.specs.Judged.{judgedStatic}
 use Rattle.checks.proofs.statics.check_static.Statement.{statement}

@@ -3,7 +3,7 @@ use mathlib.Core.Path.{refl, ap}
 use mathlib.Core.Bool.{not}
 use borrow.Author.Tests.{eq-eqb, ne-eqb}
 use Rattle.soundness.specs.Sound.{emptyCapability}
-use Rattle.layouts.proofs.Tests.{pass, stop}
+use Rattle.layout_soundness.proofs.Tests.{pass, stop}
 use Rattle.soundness.proofs.capabilities.capability_empty.Statement.{statement}
 use Rattle.soundness.proofs.capabilities.capability_empty.Tie as tie
 

@@ -2,7 +2,7 @@
 use borrow.Author.Needs.{needs}
 use borrow.Author.Tests.{le-leb, lt-leb, le-ltb, lt-ltb}
 use Rattle.soundness.specs.Sound.{capabilityTest}
-use Rattle.layouts.proofs.Tests.{pass, stop, inside, below, above}
+use Rattle.layout_soundness.proofs.Tests.{pass, stop, inside, below, above}
 use Rattle.soundness.proofs.capabilities.capability_sound.Statement.{statement}
 use Rattle.soundness.proofs.capabilities.capability_sound.Tie as tie
 

@@ -1,7 +1,7 @@
 -- `soundness::capabilities::row_sound` meets its contract.
 use borrow.Author.Needs.{needs}
 use borrow.Author.Tests.{le-ltb, lt-ltb}
-use Rattle.layouts.proofs.Tests.{in-then, in-else}
+use Rattle.layout_soundness.proofs.Tests.{in-then, in-else}
 use Rattle.soundness.proofs.capabilities.row_sound.Statement.{statement}
 use Rattle.soundness.proofs.capabilities.row_sound.Tie as tie
 

@@ -5,8 +5,8 @@ use borrow.Author.Needs.{needs}
 use lib.ListN.{getD}
 use Rattle.state.specs.Record.{noCapability}
 use Rattle.soundness.specs.Sound.{emptyCapability}
-use Rattle.layouts.proofs.Tests.{answered-true, answered-false}
-use Rattle.layouts.proofs.All.{Left, none, more, fails, done}
+use Rattle.layout_soundness.proofs.Tests.{answered-true, answered-false}
+use Rattle.layout_soundness.proofs.All.{Left, none, more, fails, done}
 use Rattle.soundness.proofs.capabilities.rows_empty.Statement.{statement}
 use Rattle.soundness.proofs.capabilities.rows_empty.Tie as tie
 

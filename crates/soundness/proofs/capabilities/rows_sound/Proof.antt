@@ -7,8 +7,8 @@ use lib.ListN.{getD}
 use Rattle.words.specs.Answer.{if_then_else_}
 use Rattle.state.specs.Record.{noCapability}
 use Rattle.soundness.specs.Sound.{capabilityTest, emptyCapability}
-use Rattle.layouts.proofs.Tests.{answered-true, answered-false}
-use Rattle.layouts.proofs.All.{Left, none, more, fails, done}
+use Rattle.layout_soundness.proofs.Tests.{answered-true, answered-false}
+use Rattle.layout_soundness.proofs.All.{Left, none, more, fails, done}
 use Rattle.soundness.proofs.capabilities.rows_sound.Statement.{statement}
 use Rattle.soundness.proofs.capabilities.rows_sound.Tie as tie
 

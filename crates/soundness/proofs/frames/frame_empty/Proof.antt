@@ -2,7 +2,7 @@
 use borrow.Author.Needs.{needs}
 use borrow.Author.Tests.{eq-eqb, ne-eqb}
 use Rattle.soundness.specs.Sound.{emptyFrame}
-use Rattle.layouts.proofs.Tests.{pass, stop, answered-true, answered-false}
+use Rattle.layout_soundness.proofs.Tests.{pass, stop, answered-true, answered-false}
 use Rattle.soundness.proofs.frames.frame_empty.Statement.{statement}
 use Rattle.soundness.proofs.frames.frame_empty.Tie as tie
 

@@ -4,7 +4,7 @@ use mathlib.Core.Bool.{not}
 use borrow.Author.Needs.{needs}
 use borrow.Author.Tests.{le-ltb, lt-ltb}
 use Rattle.soundness.specs.Sound.{frameTest}
-use Rattle.layouts.proofs.Tests.{pass, stop, inside, below, above, answered-true, answered-false}
+use Rattle.layout_soundness.proofs.Tests.{pass, stop, inside, below, above, answered-true, answered-false}
 use Rattle.soundness.proofs.frames.frame_sound.Statement.{statement}
 use Rattle.soundness.proofs.frames.frame_sound.Tie as tie
 

@@ -8,8 +8,8 @@ use lib.ListN.{getD}
 use Rattle.words.specs.Answer.{if_then_else_}
 use Rattle.state.specs.Record.{noFrame}
 use Rattle.soundness.specs.Sound.{frameTest, emptyFrame, framesTest}
-use Rattle.layouts.proofs.Tests.{pass, stop, answered-true, answered-false}
-use Rattle.layouts.proofs.All.{Left, none, more, fails, done}
+use Rattle.layout_soundness.proofs.Tests.{pass, stop, answered-true, answered-false}
+use Rattle.layout_soundness.proofs.All.{Left, none, more, fails, done}
 use Rattle.soundness.proofs.frames.frames_sound.Statement.{statement}
 use Rattle.soundness.proofs.frames.frames_sound.Tie as tie
 

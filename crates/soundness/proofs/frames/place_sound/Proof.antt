@@ -1,7 +1,7 @@
 -- `soundness::frames::place_sound` meets its contract.
 use borrow.Author.Needs.{needs}
 use borrow.Author.Tests.{le-ltb, lt-ltb}
-use Rattle.layouts.proofs.Tests.{in-then, in-else}
+use Rattle.layout_soundness.proofs.Tests.{in-then, in-else}
 use Rattle.soundness.proofs.frames.place_sound.Statement.{statement}
 use Rattle.soundness.proofs.frames.place_sound.Tie as tie
 

@@ -2,7 +2,7 @@
 use mathlib.Core.Path.{refl}
 use borrow.Author.Tests.{eq-eqb, ne-eqb}
 use Rattle.soundness.specs.Sound.{emptyPointer}
-use Rattle.layouts.proofs.Tests.{pass, stop}
+use Rattle.layout_soundness.proofs.Tests.{pass, stop}
 use Rattle.soundness.proofs.registers.pointer_empty.Statement.{statement}
 use Rattle.soundness.proofs.registers.pointer_empty.Tie as tie
 

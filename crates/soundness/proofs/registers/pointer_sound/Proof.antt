@@ -2,7 +2,7 @@
 use mathlib.Core.Path.{refl}
 use borrow.Author.Tests.{le-leb, lt-leb}
 use Rattle.soundness.specs.Sound.{pointerTest}
-use Rattle.layouts.proofs.Tests.{pass, stop}
+use Rattle.layout_soundness.proofs.Tests.{pass, stop}
 use Rattle.soundness.proofs.registers.pointer_sound.Statement.{statement}
 use Rattle.soundness.proofs.registers.pointer_sound.Tie as tie
 

@@ -5,8 +5,8 @@ use borrow.Author.Needs.{needs}
 use lib.ListN.{getD}
 use Rattle.state.specs.Record.{noPointer}
 use Rattle.soundness.specs.Sound.{pointerTest, pointersTest}
-use Rattle.layouts.proofs.Tests.{answered-true, answered-false}
-use Rattle.layouts.proofs.All.{Left, none, more, fails, done}
+use Rattle.layout_soundness.proofs.Tests.{answered-true, answered-false}
+use Rattle.layout_soundness.proofs.All.{Left, none, more, fails, done}
 use Rattle.soundness.proofs.registers.pointers_sound.Statement.{statement}
 use Rattle.soundness.proofs.registers.pointers_sound.Tie as tie
 

@@ -2,7 +2,7 @@
 use mathlib.Core.Path.{refl}
 use borrow.Author.Tests.{le-leb, lt-leb, le-ltb, lt-ltb}
 use Rattle.soundness.specs.Sound.{registersTest}
-use Rattle.layouts.proofs.Tests.{pass, stop}
+use Rattle.layout_soundness.proofs.Tests.{pass, stop}
 use Rattle.soundness.proofs.registers.registers_sound.Statement.{statement}
 use Rattle.soundness.proofs.registers.registers_sound.Tie as tie
 

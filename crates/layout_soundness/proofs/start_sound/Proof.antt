@@ -1,10 +1,10 @@
--- `layouts::start_sound` meets its contract.
+-- `layout_soundness::start_sound` meets its contract.
 use mathlib.Core.Path.{refl}
 use borrow.Author.Tests.{le-ltb, lt-ltb}
-use Rattle.layouts.specs.SoundLayout.{startTest}
-use Rattle.layouts.proofs.Tests.{pass, stop}
-use Rattle.layouts.proofs.start_sound.Statement.{statement}
-use Rattle.layouts.proofs.start_sound.Tie as tie
+use Rattle.layout_soundness.specs.SoundLayout.{startTest}
+use Rattle.layout_soundness.proofs.Tests.{pass, stop}
+use Rattle.layout_soundness.proofs.start_sound.Statement.{statement}
+use Rattle.layout_soundness.proofs.start_sound.Tie as tie
 
 returns : tie.Need-returns
 unfolding startTest

@@ -1,7 +1,7 @@
 // When a layout is sound.
 ghost use mathlib.Core.Path.{_≡_};
 ghost use lib.ListN.{getD};
-ghost use Rattle.layouts.specs.SoundLayout.{allFrom, segmentTest, stackTest, rightsTest, startTest, layoutTest};
+ghost use Rattle.layout_soundness.specs.SoundLayout.{allFrom, segmentTest, stackTest, rightsTest, startTest, layoutTest};
 use state::bases::words_in;
 use state::record::Layout;
 use state::record::Start;

@@ -1,13 +1,13 @@
--- `layouts::segments_sound` meets its contract.
+-- `layout_soundness::segments_sound` meets its contract.
 use Prim.Native.Nat.{_-_, _≤_}
 use mathlib.Core.Path.{sym}
 use borrow.Author.Needs.{needs}
 use lib.ListN.{getD}
-use Rattle.layouts.specs.SoundLayout.{segmentTest}
-use Rattle.layouts.proofs.Tests.{answered-true, answered-false}
-use Rattle.layouts.proofs.All.{Left, none, more, fails, done}
-use Rattle.layouts.proofs.segments_sound.Statement.{statement}
-use Rattle.layouts.proofs.segments_sound.Tie as tie
+use Rattle.layout_soundness.specs.SoundLayout.{segmentTest}
+use Rattle.layout_soundness.proofs.Tests.{answered-true, answered-false}
+use Rattle.layout_soundness.proofs.All.{Left, none, more, fails, done}
+use Rattle.layout_soundness.proofs.segments_sound.Statement.{statement}
+use Rattle.layout_soundness.proofs.segments_sound.Tie as tie
 
 abbrev Inv-loop : tie.InvT-loop
 Inv-loop segments domains lengths gates gatedomains i₀ i = (i ≤ 16) × Left 16 (λ k. segmentTest segments domains k (getD lengths k 0) (getD gates k 0) (getD gatedomains k 0)) i

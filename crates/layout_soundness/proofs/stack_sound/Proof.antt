@@ -1,10 +1,10 @@
--- `layouts::stack_sound` meets its contract.
+-- `layout_soundness::stack_sound` meets its contract.
 use mathlib.Core.Path.{refl}
 use borrow.Author.Tests.{le-ltb, lt-ltb}
-use Rattle.layouts.specs.SoundLayout.{stackTest}
-use Rattle.layouts.proofs.Tests.{in-then, in-else}
-use Rattle.layouts.proofs.stack_sound.Statement.{statement}
-use Rattle.layouts.proofs.stack_sound.Tie as tie
+use Rattle.layout_soundness.specs.SoundLayout.{stackTest}
+use Rattle.layout_soundness.proofs.Tests.{in-then, in-else}
+use Rattle.layout_soundness.proofs.stack_sound.Statement.{statement}
+use Rattle.layout_soundness.proofs.stack_sound.Tie as tie
 
 returns : tie.Need-returns
 unfolding stackTest

@@ -1,13 +1,13 @@
--- `layouts::layout_sound` meets its contract.
+-- `layout_soundness::layout_sound` meets its contract.
 use mathlib.Core.Path.{sym, ap, _∙_}
 use borrow.Author.Needs.{needs}
 use borrow.Author.Tests.{le-leb, lt-leb}
 use Prim.Native.Nat.{ℕ}
 use lib.Dec.{leb}
-use Rattle.layouts.specs.SoundLayout.{layoutTest}
-use Rattle.layouts.proofs.Tests.{pass, stop, inside, below, above, answered-true, answered-false}
-use Rattle.layouts.proofs.layout_sound.Statement.{statement}
-use Rattle.layouts.proofs.layout_sound.Tie as tie
+use Rattle.layout_soundness.specs.SoundLayout.{layoutTest}
+use Rattle.layout_soundness.proofs.Tests.{pass, stop, inside, below, above, answered-true, answered-false}
+use Rattle.layout_soundness.proofs.layout_sound.Statement.{statement}
+use Rattle.layout_soundness.proofs.layout_sound.Tie as tie
 
 returns : tie.Need-returns
 unfolding layoutTest

@@ -1,10 +1,10 @@
--- `layouts::segment_sound` meets its contract.
+-- `layout_soundness::segment_sound` meets its contract.
 use mathlib.Core.Path.{refl}
 use borrow.Author.Tests.{le-leb, lt-leb, le-ltb, lt-ltb, eq-eqb, ne-eqb}
-use Rattle.layouts.specs.SoundLayout.{segmentTest}
-use Rattle.layouts.proofs.Tests.{pass, stop, in-then, in-else, inside, below, above}
-use Rattle.layouts.proofs.segment_sound.Statement.{statement}
-use Rattle.layouts.proofs.segment_sound.Tie as tie
+use Rattle.layout_soundness.specs.SoundLayout.{segmentTest}
+use Rattle.layout_soundness.proofs.Tests.{pass, stop, in-then, in-else, inside, below, above}
+use Rattle.layout_soundness.proofs.segment_sound.Statement.{statement}
+use Rattle.layout_soundness.proofs.segment_sound.Tie as tie
 
 returns : tie.Need-returns
 unfolding segmentTest

@@ -1,13 +1,13 @@
--- `layouts::stacks_sound` meets its contract.
+-- `layout_soundness::stacks_sound` meets its contract.
 use Prim.Native.Nat.{_-_, _≤_}
 use mathlib.Core.Path.{sym}
 use borrow.Author.Needs.{needs}
 use lib.ListN.{getD}
-use Rattle.layouts.specs.SoundLayout.{stackTest}
-use Rattle.layouts.proofs.Tests.{answered-true, answered-false}
-use Rattle.layouts.proofs.All.{Left, none, more, fails, done}
-use Rattle.layouts.proofs.stacks_sound.Statement.{statement}
-use Rattle.layouts.proofs.stacks_sound.Tie as tie
+use Rattle.layout_soundness.specs.SoundLayout.{stackTest}
+use Rattle.layout_soundness.proofs.Tests.{answered-true, answered-false}
+use Rattle.layout_soundness.proofs.All.{Left, none, more, fails, done}
+use Rattle.layout_soundness.proofs.stacks_sound.Statement.{statement}
+use Rattle.layout_soundness.proofs.stacks_sound.Tie as tie
 
 abbrev Inv-loop : tie.InvT-loop
 Inv-loop segments domains stacks i₀ i = (i ≤ 8) × Left 8 (λ k. stackTest segments domains k (getD stacks k 0)) i

@@ -1,8 +1,8 @@
--- `layouts::right_sound` meets its contract.
+-- `layout_soundness::right_sound` meets its contract.
 use borrow.Author.Tests.{le-ltb, lt-ltb}
-use Rattle.layouts.specs.SoundLayout.{rightsTest}
-use Rattle.layouts.proofs.right_sound.Statement.{statement}
-use Rattle.layouts.proofs.right_sound.Tie as tie
+use Rattle.layout_soundness.specs.SoundLayout.{rightsTest}
+use Rattle.layout_soundness.proofs.right_sound.Statement.{statement}
+use Rattle.layout_soundness.proofs.right_sound.Tie as tie
 
 returns : tie.Need-returns
 unfolding rightsTest

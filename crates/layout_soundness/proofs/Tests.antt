@@ -6,7 +6,7 @@ use native.Mathlib.Omega.{arith}
 use borrow.Author.Tests.{le-leb, lt-leb, leb-true, not-true, not-false}
 use lib.Dec.{leb}
 use Rattle.words.specs.Answer.{if_then_else_}
-use Rattle.layouts.specs.SoundLayout.{between}
+use Rattle.layout_soundness.specs.SoundLayout.{between}
 
 -- one test is passed, and one fails
 pub pass : {a b r : Bool} → a ≡ true → r ≡ b → r ≡ (a && b)

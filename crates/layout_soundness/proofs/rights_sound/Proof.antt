@@ -1,13 +1,13 @@
--- `layouts::rights_sound` meets its contract.
+-- `layout_soundness::rights_sound` meets its contract.
 use Prim.Native.Nat.{_-_, _≤_}
 use mathlib.Core.Path.{sym}
 use borrow.Author.Needs.{needs}
 use lib.ListN.{getD}
-use Rattle.layouts.specs.SoundLayout.{rightsTest}
-use Rattle.layouts.proofs.Tests.{answered-true, answered-false}
-use Rattle.layouts.proofs.All.{Left, none, more, fails, done}
-use Rattle.layouts.proofs.rights_sound.Statement.{statement}
-use Rattle.layouts.proofs.rights_sound.Tie as tie
+use Rattle.layout_soundness.specs.SoundLayout.{rightsTest}
+use Rattle.layout_soundness.proofs.Tests.{answered-true, answered-false}
+use Rattle.layout_soundness.proofs.All.{Left, none, more, fails, done}
+use Rattle.layout_soundness.proofs.rights_sound.Statement.{statement}
+use Rattle.layout_soundness.proofs.rights_sound.Tie as tie
 
 abbrev Inv-loop : tie.InvT-loop
 Inv-loop segments domains rights i₀ i = (i ≤ 128) × Left 128 (λ k. rightsTest segments domains k (getD rights k 0)) i

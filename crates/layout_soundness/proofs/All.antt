@@ -4,8 +4,8 @@ use native.Mathlib.Omega.{arith}
 use native.Mathlib.Decide.{ℕ-discrete}
 use mathlib.Core.Path.{_≡_, refl, _∙_, ap, subst}
 use mathlib.Core.Bool.{Bool, true, false}
-use Rattle.layouts.specs.SoundLayout.{allFrom}
-use Rattle.layouts.proofs.Tests.{both, join}
+use Rattle.layout_soundness.specs.SoundLayout.{allFrom}
+use Rattle.layout_soundness.proofs.Tests.{both, join}
 
 -- a loop that has passed i numbers has the rest left to test
 abbrev pub Left : ℕ → (ℕ → Bool) → ℕ → Type 0
