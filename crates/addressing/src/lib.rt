@@ -6,7 +6,7 @@ ghost use Rattle.memory.specs.Reader.{readOf};
 ghost use Rattle.addressing.specs.Effective.{throughOf, effectiveOf};
 use memory::WordAnswer;
 use memory::read;
-use pointers::pointer_at;
+use pointer_registers::pointer_at;
 use state::record::Frame;
 use words::instruction::Instruction;
 use words::offset::displace;

@@ -15,7 +15,7 @@ use Rattle.references.specs.declared.flag.Flag.the-variants as flag
 use Rattle.references.specs.Static.{staticOf}
 use Rattle.references.specs.Reference.{accept}
 use Rattle.memory.specs.Reader.{Reader}
-use Rattle.pointers.specs.Stack.{withBase, stackOf}
+use Rattle.pointer_registers.specs.Stack.{withBase, stackOf}
 use Rattle.transfers.specs.Transfer.{gateDomainOf}
 use Rattle.crossings.specs.declared.crossing.Crossed.{Crossed}
 use Rattle.arguments.specs.ArgumentList.{frameOf}

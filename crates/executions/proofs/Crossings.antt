@@ -21,7 +21,7 @@ use Rattle.references.specs.Static.{exists, staticOf}
 use Rattle.references.proofs.Passes.{both, static-exists}
 use Rattle.memory.specs.Reader.{Reader}
 use Rattle.transfers.specs.Transfer.{gateDomainOf}
-use Rattle.pointers.specs.Stack.{stackOf}
+use Rattle.pointer_registers.specs.Stack.{stackOf}
 use Rattle.crossings.specs.Crossing.{tagged, withTag, freeFrame, entered, left, samePlace, leaveCheck, enterOf, leaveOf}
 use Rattle.executions.proofs.Says.{Says, says-bind, says-accept}
 use Rattle.executions.proofs.Plans.{base-sound, exists-sound}

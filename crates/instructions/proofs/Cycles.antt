@@ -13,7 +13,7 @@ use Rattle.memory.specs.Reader.{Reader}
 use Rattle.instructions.specs.Plan.{Plan, move, enter}
 use Rattle.transfers.specs.Transfer.{jumpCheck, callWay}
 use Rattle.instructions.specs.Instruction.{jumpOf, callOf, loadOf, next, operateOf}
-use Rattle.pointers.specs.Stack.{stackOf, withBase}
+use Rattle.pointer_registers.specs.Stack.{stackOf, withBase}
 use Rattle.instructions.specs.Cycle.{Progress, moved, entering, registersAt, settled, settledAnswer, settledWords, loaded, called}
 use Rattle.memory.proofs.Answers.{accept-then}
 

@@ -16,7 +16,7 @@ use Rattle.instructions.specs.declared.cycle.Cycle.{Cycle}
 use Rattle.memory.specs.Reader.{readOf, fetchOf, writtenOf}
 use Rattle.instructions.specs.Plan.{Plan, halt, move, store, enter, leave}
 use Rattle.instructions.specs.Instruction.{planOf, operateOf}
-use Rattle.pointers.specs.Stack.{withBase}
+use Rattle.pointer_registers.specs.Stack.{withBase}
 
 -- how far an instruction came
 pub data Progress : Type 0 where

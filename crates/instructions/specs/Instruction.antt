@@ -14,7 +14,7 @@ use Rattle.words.specs.declared.instruction.Instruction.{Instruction}
 use Rattle.state.specs.declared.record.Registers.{Registers}
 use Rattle.state.specs.Record.{noPointer}
 use Rattle.references.specs.Reference.{accept}
-use Rattle.pointers.specs.Stack.{withBase, stackOf}
+use Rattle.pointer_registers.specs.Stack.{withBase, stackOf}
 use Rattle.transfers.specs.Transfer.{jumpCheck, callWay}
 use Rattle.memory.specs.Reader.{Reader}
 use Rattle.addressing.specs.Effective.{effectiveOf}

@@ -13,7 +13,7 @@ use crate::effects::stay;
 use addressing::effective;
 use memory::WordAnswer;
 use memory::fetch;
-use pointers::pointer_at;
+use pointer_registers::pointer_at;
 use state::record::Frame;
 use state::record::Registers;
 use transfers::jump_check;

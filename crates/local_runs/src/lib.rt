@@ -4,7 +4,7 @@ ghost use Prim.Native.Nat.{_-_};
 ghost use Rattle.local_runs.specs.LocalRun.{localFrom};
 use instructions::cycle::Event;
 use instructions::cycle::run_cycle;
-use pointers::with_pointer;
+use pointer_registers::with_pointer;
 use state::record::Frame;
 use state::record::Registers;
 use words::pointer::Pointer;

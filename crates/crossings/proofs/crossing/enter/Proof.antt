@@ -12,9 +12,9 @@ use Rattle.arguments.proofs.make_frame.Reads as make-frame-reads
 use Rattle.crossings.proofs.crossing.at_place.Reads as at-place-reads
 use Rattle.crossings.proofs.crossing.gate_domain_of.Reads as gate-domain-of-reads
 use Rattle.crossings.proofs.crossing.with_tag.Reads as with-tag-reads
-use Rattle.pointers.proofs.pointer_at.Reads as pointer-at-reads
-use Rattle.pointers.proofs.stack_of.Reads as stack-of-reads
-use Rattle.pointers.proofs.with_base.Reads as with-base-reads
+use Rattle.pointer_registers.proofs.pointer_at.Reads as pointer-at-reads
+use Rattle.pointer_registers.proofs.stack_of.Reads as stack-of-reads
+use Rattle.pointer_registers.proofs.with_base.Reads as with-base-reads
 
 -- src/crossing.rt:107:82
 pointer-at-requires : tie.Need-pointer-at-requires

@@ -8,10 +8,10 @@ use Rattle.crossings.proofs.crossing.leave.Lts as lts
 use Rattle.crossings.proofs.crossing.at_place.Reads as at-place-reads
 use Rattle.crossings.proofs.crossing.free_frame.Reads as free-frame-reads
 use Rattle.crossings.proofs.crossing.leave_check.Reads as leave-check-reads
-use Rattle.pointers.proofs.pointer_at.Reads as pointer-at-reads
-use Rattle.pointers.proofs.stack_of.Reads as stack-of-reads
-use Rattle.pointers.proofs.with_base.Reads as with-base-reads
-use Rattle.pointers.proofs.with_pointer.Reads as with-pointer-reads
+use Rattle.pointer_registers.proofs.pointer_at.Reads as pointer-at-reads
+use Rattle.pointer_registers.proofs.stack_of.Reads as stack-of-reads
+use Rattle.pointer_registers.proofs.with_base.Reads as with-base-reads
+use Rattle.pointer_registers.proofs.with_pointer.Reads as with-pointer-reads
 
 -- src/crossing.rt:151:61
 pointer-at-requires : tie.Need-pointer-at-requires

@@ -3,8 +3,8 @@ use Rattle.crossings.proofs.crossing.with_tag.Statement.{statement}
 use Rattle.crossings.proofs.crossing.with_tag.Tie as tie
 use Rattle.crossings.proofs.crossing.with_tag.Reads as reads
 use Rattle.crossings.proofs.crossing.with_tag.Lts as lts
-use Rattle.pointers.proofs.pointer_at.Reads as pointer-at-reads
-use Rattle.pointers.proofs.with_pointer.Reads as with-pointer-reads
+use Rattle.pointer_registers.proofs.pointer_at.Reads as pointer-at-reads
+use Rattle.pointer_registers.proofs.with_pointer.Reads as with-pointer-reads
 
 -- src/crossing.rt:67:9
 pointer-at-requires : tie.Need-pointer-at-requires

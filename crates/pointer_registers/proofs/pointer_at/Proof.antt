@@ -1,11 +1,11 @@
--- `pointers::pointer_at` meets its contract.
+-- `pointer_registers::pointer_at` meets its contract.
 use borrow.Author.Needs.{needs}
 use mathlib.Core.Path.{refl, sym}
 use Rattle.state.specs.Record.{noPointer}
 use lib.ListN.{List·getD-eq-default}
-use Rattle.pointers.proofs.Registers.{eighth}
-use Rattle.pointers.proofs.pointer_at.Statement.{statement}
-use Rattle.pointers.proofs.pointer_at.Tie as tie
+use Rattle.pointer_registers.proofs.Registers.{eighth}
+use Rattle.pointer_registers.proofs.pointer_at.Statement.{statement}
+use Rattle.pointer_registers.proofs.pointer_at.Tie as tie
 
 returns : tie.Need-returns
 returns c = sym (List·getD-eq-default (c .before .args .t1) noPointer {n = c .before .args .k} (rw (c .before .good .0 .1 .0 .1) (c .if1 .taken)))

@@ -1,10 +1,10 @@
--- `pointers::with_pointer` meets its contract.
+-- `pointer_registers::with_pointer` meets its contract.
 use borrow.Author.Needs.{needs}
 use mathlib.Core.Path.{refl, sym}
 use lib.Seq.{set-out}
-use Rattle.pointers.proofs.Registers.{eighth}
-use Rattle.pointers.proofs.with_pointer.Statement.{statement}
-use Rattle.pointers.proofs.with_pointer.Tie as tie
+use Rattle.pointer_registers.proofs.Registers.{eighth}
+use Rattle.pointer_registers.proofs.with_pointer.Statement.{statement}
+use Rattle.pointer_registers.proofs.with_pointer.Tie as tie
 
 returns : tie.Need-returns
 returns c = sym (set-out _ _ _ (rw (c .before .good .0 .1 .0 .1) (c .if1 .taken)))

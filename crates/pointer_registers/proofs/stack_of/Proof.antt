@@ -1,8 +1,8 @@
--- `pointers::stack_of` meets its contract.
+-- `pointer_registers::stack_of` meets its contract.
 use borrow.Author.Needs.{needs}
 use borrow.Author.Tests.{lt-ltb, le-ltb}
-use Rattle.pointers.proofs.stack_of.Statement.{statement}
-use Rattle.pointers.proofs.stack_of.Tie as tie
+use Rattle.pointer_registers.proofs.stack_of.Statement.{statement}
+use Rattle.pointer_registers.proofs.stack_of.Tie as tie
 
 returns : tie.Need-returns
 returns c = simp (le-ltb _ _ (c .if1 .taken))

@@ -2,7 +2,7 @@
 ghost use mathlib.Core.Path.{_≡_};
 ghost use lib.ListN.{getD, set};
 ghost use Rattle.state.specs.Record.{noPointer};
-ghost use Rattle.pointers.specs.Stack.{stackOf, withBase};
+ghost use Rattle.pointer_registers.specs.Stack.{stackOf, withBase};
 use words::pointer::Pointer;
 
 // Register k; a register that does not exist holds nothing. Constant indexes, so that the registers need not be copied.
