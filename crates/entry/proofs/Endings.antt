@@ -8,7 +8,7 @@ use Rattle.words.specs.Answer.{Answer, refuse, ok, _>>=_}
 use Rattle.state.specs.declared.record.Machine.{Machine}
 use Rattle.runs.specs.Step.{Event, stopped, moved, crossing, Done, execute}
 use Rattle.runs.specs.Run.{Ending, halted, spent, crossed, faulted, refused, afterEvent, after, runFrom}
-use Rattle.image.specs.Image.{Image, imageOf}
+use Rattle.image_format.specs.Image.{Image, imageOf}
 use Rattle.entry.specs.ImageRun.{Final, finalOf, machineRun, imageRun}
 use Rattle.entry.specs.Entry.{endingByte}
 

@@ -5,7 +5,7 @@ use mathlib.Core.Path.{_≡_, refl, sym, ap, _∙_}
 use borrow.Author.Tests.{le-leb, lt-leb}
 use lib.ListN.{length, drop}
 use Rattle.words.specs.Answer.{Answer, refuse, ok}
-use Rattle.image.specs.Bytes.{pairBytes}
+use Rattle.image_format.specs.Bytes.{pairBytes}
 use Rattle.image_writer.specs.Writer.{outputAfter}
 use Rattle.entry.specs.ImageRun.{Final, imageRun}
 use Rattle.entry.specs.Entry.{resultBytes, entryOf, numberOf}

@@ -12,8 +12,8 @@ use Rattle.soundness.specs.Sound.{soundTest}
 use Rattle.fresh.specs.Fresh.{freshOf}
 use Rattle.runs.specs.Run.{refused, judged, calledOf}
 use Rattle.processor.specs.Calls.{runOf, runCall}
-use Rattle.image.specs.Segment.{allWords}
-use Rattle.image.specs.Image.{Image, imageOf, layoutOf}
+use Rattle.image_format.specs.Segment.{allWords}
+use Rattle.image_format.specs.Image.{Image, imageOf, layoutOf}
 use Rattle.image_reader.specs.Reader.{readOf, machineAfter, memoryAfter}
 use Rattle.image_reader.specs.declared.ReadAnswer.{ReadAnswer}
 use Rattle.roundtrips.proofs.Accepted.{accepted}

@@ -9,12 +9,12 @@ use lib.ListN.{length, getD, drop}
 use Rattle.words.specs.Answer.{Answer, refuse, ok, _>>=_, _>>_, require}
 use Rattle.words.specs.PointerWord.{pointerOf}
 use Rattle.words.specs.declared.pointer.Pointer.{Pointer}
-use Rattle.image.specs.Bytes.{pairOf}
-use Rattle.image.specs.Chunk.{chunkAt, headerOf, chunkOf, exactly}
-use Rattle.image.specs.Head.{located, headFields, headBody, headRead, headOf}
-use Rattle.image.specs.Segment.{wordCount, segmentLength, segmentFields, segmentBody, segmentRead, segmentOf, segmentsOf}
-use Rattle.image.specs.Domain.{allRights, domainBody, domainRead, domainOf, domainsOf}
-use Rattle.image.specs.Image.{endOf, imageOf}
+use Rattle.image_format.specs.Bytes.{pairOf}
+use Rattle.image_format.specs.Chunk.{chunkAt, headerOf, chunkOf, exactly}
+use Rattle.image_format.specs.Head.{located, headFields, headBody, headRead, headOf}
+use Rattle.image_format.specs.Segment.{wordCount, segmentLength, segmentFields, segmentBody, segmentRead, segmentOf, segmentsOf}
+use Rattle.image_format.specs.Domain.{allRights, domainBody, domainRead, domainOf, domainsOf}
+use Rattle.image_format.specs.Image.{endOf, imageOf}
 
 abbrev pub Refusal : ℕ → Type 0
 Refusal n = (1 ≤ n) × (n ≤ 6)

@@ -6,7 +6,7 @@ use lib.ListN.{length}
 use Rattle.words.specs.Answer.{Answer, refuse, ok, _>>=_, _>>_, require}
 use Rattle.words.specs.Numbers.{outputTooShort}
 use Rattle.runs.specs.Run.{Ending, halted, spent, crossed, faulted, refused}
-use Rattle.image.specs.Bytes.{pairBytes}
+use Rattle.image_format.specs.Bytes.{pairBytes}
 use Rattle.entry.specs.ImageRun.{Final, imageRun}
 
 -- an ending's byte; no run of an image ends at a crossing or as refused

@@ -10,7 +10,7 @@ use Rattle.runs.specs.declared.outcome.Outcome.{Outcome}
 use Rattle.runs.specs.Run.{Ending, refused, Ran}
 use Rattle.processor.specs.Calls.{runOf}
 use Rattle.runs.specs.Resume.{endAnswer}
-use Rattle.image.specs.Image.{Image, imageOf, layoutOf}
+use Rattle.image_format.specs.Image.{Image, imageOf, layoutOf}
 use Rattle.image_reader.specs.Reader.{memoryAfter}
 
 -- what a run comes to, without its words

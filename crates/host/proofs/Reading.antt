@@ -7,7 +7,7 @@ use lib.ListN.{length}
 use Rattle.words.specs.Answer.{Answer, refuse}
 use Rattle.snapshot_reader.specs.Read.{recordOf}
 use Rattle.snapshot_writer.specs.Write.{writtenTo}
-use Rattle.image.specs.Image.{Image}
+use Rattle.image_format.specs.Image.{Image}
 use Rattle.image_reader.specs.Reader.{readOf, machineAfter, memoryAfter}
 use Rattle.image_reader.specs.declared.ReadAnswer.{ReadAnswer}
 use Rattle.host.specs.Images.{imageRead, readNumber, recordAfterRead, wordsAfterRead}

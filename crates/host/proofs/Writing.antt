@@ -14,10 +14,10 @@ use Rattle.soundness.specs.Sound.{soundTest}
 use Rattle.soundness.proofs.Facts.{sound-facts}
 use Rattle.snapshot_writer.specs.Tabulate.{tabulate}
 use Rattle.snapshot_reader.specs.Read.{recordOf}
-use Rattle.image.specs.Image.{imageFrom, bytesOf}
+use Rattle.image_format.specs.Image.{imageFrom, bytesOf}
 use Rattle.image_reader.specs.Reader.{mapped}
 use Rattle.image_writer.specs.Writer.{writeOf, writtenOf}
-use Rattle.image.proofs.Sizes.{image-size}
+use Rattle.image_format.proofs.Sizes.{image-size}
 use Rattle.image_writer.specs.declared.Written.{Written}
 use Rattle.host.specs.Check.{codeOf}
 use Rattle.host.specs.Images.{imageWritten, writeCode}

@@ -7,7 +7,7 @@ use Rattle.words.specs.Answer.{Answer, _>>_, require}
 use Rattle.words.specs.Numbers.{outputTooShort}
 use Rattle.snapshot_reader.specs.Read.{recordOf}
 use Rattle.snapshot_writer.specs.Write.{writtenTo}
-use Rattle.image.specs.Image.{Image}
+use Rattle.image_format.specs.Image.{Image}
 use Rattle.image_reader.specs.Reader.{readOf, machineAfter, memoryAfter, mapped}
 use Rattle.image_writer.specs.Writer.{writeOf, outputAfter}
 use Rattle.image_reader.specs.declared.ReadAnswer.{ReadAnswer}

@@ -6,15 +6,15 @@ use mathlib.Core.List.{List, [], _∷_, _++_, append-assoc}
 use lib.ListN.{length, take, drop, set, replicate, length-append, length-map, length-drop, length-replicate, replicate-append-replicate}
 use lib.Seq.{paste, take-at, drop-append-add, length-take-le}
 use Rattle.words.specs.Answer.{refuse, ok}
-use Rattle.image.specs.Bytes.{joined}
-use Rattle.image.specs.Chunk.{Read, chunkOf, exactly}
-use Rattle.image.specs.Domain.{Domain, domainRead, domainOf, domainsOf}
-use Rattle.image.specs.Image.{padded, allRows}
+use Rattle.image_format.specs.Bytes.{joined}
+use Rattle.image_format.specs.Chunk.{Read, chunkOf, exactly}
+use Rattle.image_format.specs.Domain.{Domain, domainRead, domainOf, domainsOf}
+use Rattle.image_format.specs.Image.{padded, allRows}
 use Rattle.image_reader.specs.Rows.{stacksOf, domainRows}
-use Rattle.image.proofs.Answers.{bound}
-use Rattle.image.proofs.Chunks.{exact-room}
-use Rattle.image.proofs.Joined.{joined-snoc}
-use Rattle.image.proofs.Padded.{padded-set, padded-length, map-snoc}
+use Rattle.image_format.proofs.Answers.{bound}
+use Rattle.image_format.proofs.Chunks.{exact-room}
+use Rattle.image_format.proofs.Joined.{joined-snoc}
+use Rattle.image_format.proofs.Padded.{padded-set, padded-length, map-snoc}
 use Rattle.image_reader.proofs.Runs.{more, one, more-none, more-one, more-done}
 
 pub domain-room : (segments : ℕ) (bytes : List ℕ) {d : Read Domain} → domainOf segments bytes ≡ ok d → 4 + (1 + segments) ≤ length bytes

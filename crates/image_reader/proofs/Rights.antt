@@ -8,7 +8,7 @@ use mathlib.Core.List.{List, _∷_}
 use borrow.Author.Tests.{lt-leb, le-leb}
 use lib.ListN.{length, getD, take, drop, drop-of-length-le, length-take}
 use lib.Seq.{drop-cons, getD-take}
-use Rattle.image.specs.Domain.{allRights}
+use Rattle.image_format.specs.Domain.{allRights}
 
 -- the first j of n bytes are rights
 abbrev pub Passed : List ℕ → ℕ → ℕ → Type 0

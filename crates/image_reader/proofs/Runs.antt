@@ -4,7 +4,7 @@ use mathlib.Core.Path.{_≡_, refl, sym, ap}
 use mathlib.Core.List.{List, [], _∷_, _++_, append-nil}
 use lib.Seq.{append-snoc}
 use Rattle.words.specs.Answer.{Answer, refuse, ok, _>>=_}
-use Rattle.image.specs.Chunk.{Read}
+use Rattle.image_format.specs.Chunk.{Read}
 
 -- the rows that were read before those of an answer
 abbrev pub more : {A : Type 0} → List A → Answer (Read (List A)) → Answer (Read (List A))

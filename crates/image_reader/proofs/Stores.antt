@@ -7,18 +7,18 @@ use lib.ListN.{length, getD, take, drop, length-append, length-drop}
 use lib.Seq.{paste, take-at, drop-append-add, drop-drop, append-snoc, take-all}
 use Rattle.words.specs.Answer.{Answer, refuse, ok}
 use Rattle.state.specs.declared.record.Layout.{Layout}
-use Rattle.image.specs.Bytes.{pairOf, wordsOf, joined}
-use Rattle.image.specs.Chunk.{Read}
-use Rattle.image.specs.Segment.{Segment, wordCount, segmentsOf, allWords}
-use Rattle.image.specs.Image.{Image, imageOf, layoutOf, padded}
+use Rattle.image_format.specs.Bytes.{pairOf, wordsOf, joined}
+use Rattle.image_format.specs.Chunk.{Read}
+use Rattle.image_format.specs.Segment.{Segment, wordCount, segmentsOf, allWords}
+use Rattle.image_format.specs.Image.{Image, imageOf, layoutOf, padded}
 use Rattle.image_reader.specs.Rows.{lengthsOf}
 use Rattle.image_reader.specs.Reader.{mapped, memoryAfter}
-use Rattle.image.proofs.Answers.{no-value, the-value}
-use Rattle.image.proofs.Joined.{joined-snoc}
-use Rattle.image.proofs.Parts.{words-length}
-use Rattle.image.proofs.Bodies.{words-is}
-use Rattle.image.proofs.Segments.{SegmentPassed, segment-facts, segment-count}
-use Rattle.image.proofs.Images.{image-facts, head-facts, Segmented, segments-facts, segments-end, segments-count}
+use Rattle.image_format.proofs.Answers.{no-value, the-value}
+use Rattle.image_format.proofs.Joined.{joined-snoc}
+use Rattle.image_format.proofs.Parts.{words-length}
+use Rattle.image_format.proofs.Bodies.{words-is}
+use Rattle.image_format.proofs.Segments.{SegmentPassed, segment-facts, segment-count}
+use Rattle.image_format.proofs.Images.{image-facts, head-facts, Segmented, segments-facts, segments-end, segments-count}
 
 pub record Mapped {A B : Type 0} (f : A → B) (a : Answer A) (y : B) : Type 0 where
   pub value : A

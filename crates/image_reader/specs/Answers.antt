@@ -3,11 +3,11 @@ use Prim.Native.Nat.{ℕ, _+_}
 use mathlib.Core.List.{List}
 use lib.ListN.{take, drop}
 use Rattle.words.specs.Answer.{Answer, refuse, ok, _>>=_, _>>_}
-use Rattle.image.specs.declared.Head.{Head}
-use Rattle.image.specs.Bytes.{wordsOf}
-use Rattle.image.specs.Chunk.{Read, chunkAt}
-use Rattle.image.specs.Segment.{Segment}
-use Rattle.image.specs.Domain.{Domain}
+use Rattle.image_format.specs.declared.Head.{Head}
+use Rattle.image_format.specs.Bytes.{wordsOf}
+use Rattle.image_format.specs.Chunk.{Read, chunkAt}
+use Rattle.image_format.specs.Segment.{Segment}
+use Rattle.image_format.specs.Domain.{Domain}
 use Rattle.image_reader.specs.declared.chunk.HeaderAnswer.{HeaderAnswer}
 use Rattle.image_reader.specs.declared.chunk.HeaderAnswer.the-variants as header
 use Rattle.image_reader.specs.declared.chunk.Verdict.{Verdict}

@@ -9,8 +9,8 @@ use Rattle.state.specs.declared.record.Machine.{Machine}
 use Rattle.fresh.specs.Fresh.{freshOf}
 use Rattle.words.specs.Numbers.{memoryTooShort}
 use Rattle.image_reader.specs.Answers.{verdictAnswer}
-use Rattle.image.specs.Segment.{allWords}
-use Rattle.image.specs.Image.{Image, imageOf, layoutOf}
+use Rattle.image_format.specs.Segment.{allWords}
+use Rattle.image_format.specs.Image.{Image, imageOf, layoutOf}
 use Rattle.image_reader.specs.declared.judge.Judged.{Judged}
 use Rattle.image_reader.specs.declared.ReadAnswer.{ReadAnswer}
 

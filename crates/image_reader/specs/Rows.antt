@@ -4,11 +4,11 @@ use mathlib.Core.List.{List, map}
 use lib.ListN.{length, drop}
 use Rattle.words.specs.Answer.{Answer, refuse, ok, _>>=_, _>>_}
 use Rattle.state.specs.declared.record.Layout.{Layout}
-use Rattle.image.specs.Chunk.{Read}
-use Rattle.image.specs.Segment.{Segment}
-use Rattle.image.specs.Domain.{Domain, domainsOf}
-use Rattle.image.specs.Image.{padded, allRows, endOf}
-use Rattle.image.specs.declared.Head.{Head}
+use Rattle.image_format.specs.Chunk.{Read}
+use Rattle.image_format.specs.Segment.{Segment}
+use Rattle.image_format.specs.Domain.{Domain, domainsOf}
+use Rattle.image_format.specs.Image.{padded, allRows, endOf}
+use Rattle.image_format.specs.declared.Head.{Head}
 use Rattle.image_reader.specs.declared.segment.Place.{Place}
 use Rattle.image_reader.specs.declared.segment.Place.the-variants as place
 use Rattle.image_reader.specs.declared.segment.Segments.{Segments}

@@ -2,7 +2,7 @@
 ghost use mathlib.Core.Path.{_≡_};
 ghost use Prim.Native.Nat.{_+_, _<_, _≤_};
 ghost use lib.ListN.{length, drop};
-ghost use Rattle.image.specs.Bytes.{pairOf, wordOf};
+ghost use Rattle.image_format.specs.Bytes.{pairOf, wordOf};
 
 // How many bytes there are from a place on.
 pub fn left(image: &[u8], at: usize) -> usize

@@ -1,7 +1,7 @@
 // Chunks of an image.
 ghost use mathlib.Core.Path.{_≡_};
 ghost use lib.ListN.{drop};
-ghost use Rattle.image.specs.Chunk.{headerOf, chunkOf, exactly};
+ghost use Rattle.image_format.specs.Chunk.{headerOf, chunkOf, exactly};
 ghost use Rattle.image_reader.specs.Answers.{headerAnswer, chunkAnswer};
 use crate::bytes::left;
 use crate::bytes::pair;

@@ -3,7 +3,7 @@ ghost use mathlib.Core.Path.{_≡_};
 ghost use Prim.Native.Nat.{_+_, _*_, _≤_, _<_};
 ghost use lib.ListN.{length, take, drop};
 ghost use lib.Seq.{paste};
-ghost use Rattle.image.specs.Domain.{allRights, domainOf, domainsOf};
+ghost use Rattle.image_format.specs.Domain.{allRights, domainOf, domainsOf};
 ghost use Rattle.image_reader.specs.Answers.{domainAnswer};
 ghost use Rattle.image_reader.specs.Rows.{domainRows, domainsAnswer};
 use crate::chunk::Verdict;

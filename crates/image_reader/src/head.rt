@@ -1,12 +1,12 @@
 // Kind 1: the counts and the start.
 ghost use mathlib.Core.Path.{_≡_};
 ghost use Rattle.words.specs.PointerWord.{pointerOf, pointerAnswer};
-ghost use Rattle.image.specs.Head.{located, headFields, headOf};
+ghost use Rattle.image_format.specs.Head.{located, headFields, headOf};
 ghost use Rattle.image_reader.specs.Answers.{fieldsAnswer, headAnswer};
 use crate::bytes::word;
 use crate::chunk::Verdict;
 use crate::chunk::exact;
-use image::Head;
+use image_format::Head;
 use state::record::Start;
 use words::pointer::Pointer;
 use words::pointer::PointerAnswer;

@@ -4,7 +4,7 @@ ghost use Prim.Native.Nat.{_≤_};
 ghost use lib.ListN.{drop};
 ghost use Rattle.words.specs.Answer.{refuse};
 ghost use Rattle.image_reader.specs.Answers.{verdictAnswer};
-ghost use Rattle.image.specs.Image.{endOf, imageOf, layoutOf};
+ghost use Rattle.image_format.specs.Image.{endOf, imageOf, layoutOf};
 ghost use Rattle.image_reader.specs.Rows.{afterSegments};
 ghost use Rattle.image_reader.specs.Reader.{mapped, judgedAnswer};
 use crate::bytes::left;
@@ -16,7 +16,7 @@ use crate::head::head_chunk;
 use crate::segment::Place;
 use crate::segment::Segments;
 use crate::segment::segment_chunks;
-use image::Head;
+use image_format::Head;
 use state::record::Layout;
 use state::record::Start;
 

@@ -2,9 +2,9 @@
 ghost use mathlib.Core.Path.{_≡_};
 ghost use Prim.Native.Nat.{_+_, _-_, _≤_, _<_};
 ghost use lib.ListN.{length, drop};
-ghost use Rattle.image.specs.Chunk.{chunkAt};
+ghost use Rattle.image_format.specs.Chunk.{chunkAt};
 ghost use Rattle.image_reader.specs.Answers.{verdictAnswer, segmentAnswer};
-ghost use Rattle.image.specs.Segment.{segmentLength, segmentFields, segmentRead, segmentOf, segmentsOf};
+ghost use Rattle.image_format.specs.Segment.{segmentLength, segmentFields, segmentRead, segmentOf, segmentsOf};
 ghost use Rattle.image_reader.specs.Rows.{segmentRows, segmentsAnswer};
 use crate::bytes::left;
 use crate::bytes::pair;

@@ -7,7 +7,7 @@ use Rattle.words.specs.Answer.{Answer, refuse, ok, _>>_, require}
 use Rattle.state.specs.declared.record.Machine.{Machine}
 use Rattle.soundness.specs.Sound.{soundTest}
 use Rattle.words.specs.Numbers.{notSound, memoryTooShort, outputTooShort}
-use Rattle.image.specs.Image.{imageFrom, bytesOf}
+use Rattle.image_format.specs.Image.{imageFrom, bytesOf}
 use Rattle.image_writer.specs.declared.Written.{Written}
 
 -- the bytes of a machine's image, or the refusal

@@ -3,8 +3,8 @@ ghost use mathlib.Core.Path.{_≡_};
 ghost use mathlib.Core.List.{_++_};
 ghost use Prim.Native.Nat.{_+_, _*_, _≤_};
 ghost use lib.ListN.{length, take, drop};
-ghost use Rattle.image.specs.Bytes.{pairBytes, wordBytes, wordsBytes};
-ghost use Rattle.image.specs.Output.{written};
+ghost use Rattle.image_format.specs.Bytes.{pairBytes, wordBytes, wordsBytes};
+ghost use Rattle.image_format.specs.Output.{written};
 
 pub fn put_pair(output: &mut [u8], at: usize, x: u16)
     requires { ⌜ at + 2 ≤ length (now output) ⌝ }

@@ -4,8 +4,8 @@ use native.Mathlib.Omega.{arith}
 use mathlib.Core.List.{List, _++_}
 use mathlib.Core.Path.{_≡_}
 use lib.ListN.{length, length-append}
-use Rattle.image.specs.Output.{written}
-use Rattle.image.proofs.Written.{then-bytes, then-length}
+use Rattle.image_format.specs.Output.{written}
+use Rattle.image_format.proofs.Written.{then-bytes, then-length}
 
 -- the bytes xs put from a place on, and the place after them
 abbrev pub Puts : List ℕ → List ℕ → ℕ → ℕ → List ℕ → Type 0

@@ -8,8 +8,8 @@ use lib.Seq.{length-take-le}
 use Rattle.runs.specs.declared.outcome.End.the-variants as end
 use Rattle.runs.specs.declared.outcome.Outcome.{Outcome}
 use Rattle.runs.specs.Resume.{endAnswer}
-use Rattle.image.specs.Output.{written}
-use Rattle.image.proofs.Written.{then-length}
+use Rattle.image_format.specs.Output.{written}
+use Rattle.image_format.proofs.Written.{then-length}
 use Rattle.entry.specs.ImageRun.{outcomeAnswer, imageRun, closed}
 use Rattle.entry.proofs.Outcomes.{outcome-refused, outcome-passed}
 use Rattle.report.specs.Text.{line}

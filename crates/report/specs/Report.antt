@@ -5,7 +5,7 @@ use lib.ListN.{length, replicate}
 use Rattle.words.specs.Answer.{Answer, refuse, ok}
 use Rattle.state.specs.declared.record.Registers.{Registers}
 use Rattle.runs.specs.Run.{Ending, halted, spent, crossed, faulted, refused}
-use Rattle.image.specs.Output.{written}
+use Rattle.image_format.specs.Output.{written}
 use Rattle.entry.specs.ImageRun.{Final, imageRun}
 use Rattle.report.specs.Text.{text, field, line}
 use Rattle.report.specs.declared.Printed.{Printed}

@@ -4,7 +4,7 @@ ghost use mathlib.Core.List.{_++_, _∷_, []};
 ghost use Prim.Native.Nat.{_+_, _≤_};
 ghost use lib.ListN.{length};
 ghost use Rattle.runs.specs.Resume.{endAnswer};
-ghost use Rattle.image.specs.Output.{written};
+ghost use Rattle.image_format.specs.Output.{written};
 ghost use Rattle.report.specs.Text.{text, field, line};
 ghost use Rattle.report.specs.Report.{endText, restText};
 use crate::text::put_decimal;

@@ -2,7 +2,7 @@
 ghost use mathlib.Core.Path.{_≡_};
 ghost use Prim.Native.Nat.{_+_, _≤_};
 ghost use lib.ListN.{length};
-ghost use Rattle.image.specs.Output.{written};
+ghost use Rattle.image_format.specs.Output.{written};
 ghost use Rattle.report.specs.Text.{decimal};
 
 // A text from a place on; the place after it.

@@ -12,14 +12,14 @@ use Rattle.words.specs.Field.{field}
 use Rattle.words.specs.PointerWord.{pointerOf}
 use Rattle.words.specs.declared.pointer.Pointer.{Pointer}
 use Rattle.words.proofs.Fields.{field-lt}
-use Rattle.image.specs.Chunk.{Read, chunkOf, exactly}
-use Rattle.image.specs.Segment.{Segment, allWords}
-use Rattle.image.specs.Domain.{Domain}
-use Rattle.image.specs.Image.{Image, endOf, imageOf}
-use Rattle.image.specs.declared.Head.{Head}
-use Rattle.image.proofs.Answers.{test, after, bound, the-value}
-use Rattle.image.proofs.Chunks.{chunk-facts, exact-size}
-use Rattle.image.proofs.Images.{ImageRead, image-facts, HeadRead, head-facts, segments-count, domains-count}
+use Rattle.image_format.specs.Chunk.{Read, chunkOf, exactly}
+use Rattle.image_format.specs.Segment.{Segment, allWords}
+use Rattle.image_format.specs.Domain.{Domain}
+use Rattle.image_format.specs.Image.{Image, endOf, imageOf}
+use Rattle.image_format.specs.declared.Head.{Head}
+use Rattle.image_format.proofs.Answers.{test, after, bound, the-value}
+use Rattle.image_format.proofs.Chunks.{chunk-facts, exact-size}
+use Rattle.image_format.proofs.Images.{ImageRead, image-facts, HeadRead, head-facts, segments-count, domains-count}
 use Rattle.roundtrips.proofs.Good.{Good, GoodSegment, GoodSegments, GoodDomain, GoodDomains, All, good-segments, good-domains}
 
 -- a pointer that is read has a word number of at most 4,095

@@ -16,12 +16,12 @@ use Rattle.fresh.specs.Fresh.{freshOf}
 use Rattle.layout_soundness.proofs.Tests.{join, inside, both, either-part}
 use Rattle.layout_soundness.proofs.All.{all}
 use Rattle.soundness.proofs.FreshSound.{fresh-sound}
-use Rattle.image.specs.Bytes.{joined}
-use Rattle.image.specs.Segment.{Segment, allWords}
-use Rattle.image.specs.Domain.{Domain, allRights}
-use Rattle.image.specs.Image.{Image, imageOf, layoutOf, padded, allRows}
+use Rattle.image_format.specs.Bytes.{joined}
+use Rattle.image_format.specs.Segment.{Segment, allWords}
+use Rattle.image_format.specs.Domain.{Domain, allRights}
+use Rattle.image_format.specs.Image.{Image, imageOf, layoutOf, padded, allRows}
 use Rattle.image_reader.specs.Rows.{lengthsOf, gatesOf, gatedomainsOf, stacksOf}
-use Rattle.image.proofs.Padded.{padded-length}
+use Rattle.image_format.proofs.Padded.{padded-length}
 use Rattle.roundtrips.proofs.Good.{All, all-at, Good, GoodSegment, GoodDomain}
 use Rattle.roundtrips.proofs.Accepted.{accepted}
 

@@ -6,12 +6,12 @@ use lib.ListN.{take, replicate, set}
 use Rattle.words.specs.Answer.{Answer, refuse, ok}
 use Rattle.words.specs.Field.{field}
 use Rattle.words.specs.PointerWord.{pointerOf}
-use Rattle.image.specs.Bytes.{pairOf, wordOf, wordsOf}
-use Rattle.image.specs.Chunk.{headerOf, chunkOf}
-use Rattle.image.specs.Head.{headFields, headBody, headOf}
-use Rattle.image.specs.Segment.{segmentLength, segmentFields, segmentBody, segmentOf, segmentsOf}
-use Rattle.image.specs.Domain.{allRights, domainBody, domainOf, domainsOf}
-use Rattle.image.specs.Image.{Image, endOf, imageOf}
+use Rattle.image_format.specs.Bytes.{pairOf, wordOf, wordsOf}
+use Rattle.image_format.specs.Chunk.{headerOf, chunkOf}
+use Rattle.image_format.specs.Head.{headFields, headBody, headOf}
+use Rattle.image_format.specs.Segment.{segmentLength, segmentFields, segmentBody, segmentOf, segmentsOf}
+use Rattle.image_format.specs.Domain.{allRights, domainBody, domainOf, domainsOf}
+use Rattle.image_format.specs.Image.{Image, endOf, imageOf}
 use Rattle.image_reader.specs.Reader.{readOf}
 
 -- one segment of one word, HALT, and one domain that may execute it

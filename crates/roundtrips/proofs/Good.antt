@@ -9,16 +9,16 @@ use lib.Dec.{ltb}
 use lib.ListN.{length, getD, take, drop, length-append, length-drop}
 use borrow.Author.Tests.{ltb-true}
 use Rattle.words.specs.Answer.{ok, _>>_, require}
-use Rattle.image.specs.Bytes.{pairOf, joined}
-use Rattle.image.specs.Chunk.{Read, chunkAt, chunkOf, exactly}
-use Rattle.image.specs.Segment.{Segment, segmentsOf, allWords}
-use Rattle.image.specs.Domain.{Domain, allRights, domainBody, domainRead, domainOf, domainsOf}
-use Rattle.image.specs.Image.{Image}
-use Rattle.image.proofs.Answers.{passed, test, after, bound, the-value}
-use Rattle.image.proofs.Bodies.{body-length}
-use Rattle.image.proofs.Chunks.{Chunked, chunk-facts, exact-size}
-use Rattle.image.proofs.Segments.{segment-facts, segment-count}
-use Rattle.image.proofs.Images.{segments-facts, segments-end, domains-facts, domains-end}
+use Rattle.image_format.specs.Bytes.{pairOf, joined}
+use Rattle.image_format.specs.Chunk.{Read, chunkAt, chunkOf, exactly}
+use Rattle.image_format.specs.Segment.{Segment, segmentsOf, allWords}
+use Rattle.image_format.specs.Domain.{Domain, allRights, domainBody, domainRead, domainOf, domainsOf}
+use Rattle.image_format.specs.Image.{Image}
+use Rattle.image_format.proofs.Answers.{passed, test, after, bound, the-value}
+use Rattle.image_format.proofs.Bodies.{body-length}
+use Rattle.image_format.proofs.Chunks.{Chunked, chunk-facts, exact-size}
+use Rattle.image_format.proofs.Segments.{segment-facts, segment-count}
+use Rattle.image_format.proofs.Images.{segments-facts, segments-end, domains-facts, domains-end}
 
 -- each element of a list
 abbrev pub All : {A : Type 0} → (A → Type 0) → List A → Type 0

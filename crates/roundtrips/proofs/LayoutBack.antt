@@ -16,13 +16,13 @@ use Rattle.layout_soundness.specs.SoundLayout.{allFrom, between, segmentTest, s
 use Rattle.layout_soundness.proofs.Tests.{join, both, else-part}
 use Rattle.layout_soundness.proofs.All.{each}
 use Rattle.soundness.proofs.Facts.{LayoutSound}
-use Rattle.image.specs.Bytes.{joined}
-use Rattle.image.specs.Segment.{Segment, allWords}
-use Rattle.image.specs.Domain.{Domain, allRights}
-use Rattle.image.specs.Image.{layoutOf, padded, allRows, rowsFrom, segmentAt, domainAt, segmentsIn, domainsIn, imageFrom}
-use Rattle.image.proofs.Joined.{joined-snoc, rows-next, rows-length}
-use Rattle.image.proofs.Padded.{padded-length}
-use Rattle.image.proofs.Sizes.{segment-words, domain-rights, words-all}
+use Rattle.image_format.specs.Bytes.{joined}
+use Rattle.image_format.specs.Segment.{Segment, allWords}
+use Rattle.image_format.specs.Domain.{Domain, allRights}
+use Rattle.image_format.specs.Image.{layoutOf, padded, allRows, rowsFrom, segmentAt, domainAt, segmentsIn, domainsIn, imageFrom}
+use Rattle.image_format.proofs.Joined.{joined-snoc, rows-next, rows-length}
+use Rattle.image_format.proofs.Padded.{padded-length}
+use Rattle.image_format.proofs.Sizes.{segment-words, domain-rights, words-all}
 use Rattle.roundtrips.proofs.Good.{All, Good, GoodSegment, GoodDomain}
 use Rattle.roundtrips.proofs.AcceptedSound.{noSegment, noDomain, padded-at, padded-past, map-at, map-past, rights-at, rows-size}
 use Rattle.roundtrips.proofs.ReadBack.{Below}

@@ -8,12 +8,12 @@ use lib.ListN.{length, getD, take, drop, replicate, length-append}
 use lib.Seq.{ext-getD, split-at, take-suc, take-at, drop-at, length-take-le}
 use Rattle.state.specs.Bases.{baseOf}
 use Rattle.state.proofs.Sums.{base-next, base-zero}
-use Rattle.image.specs.Bytes.{joined}
-use Rattle.image.specs.Segment.{Segment, allWords}
-use Rattle.image.specs.Domain.{Domain}
-use Rattle.image.specs.Image.{Image, layoutOf, padded, allRows, rowsFrom, segmentAt, domainAt, imageFrom}
+use Rattle.image_format.specs.Bytes.{joined}
+use Rattle.image_format.specs.Segment.{Segment, allWords}
+use Rattle.image_format.specs.Domain.{Domain}
+use Rattle.image_format.specs.Image.{Image, layoutOf, padded, allRows, rowsFrom, segmentAt, domainAt, imageFrom}
 use Rattle.image_reader.specs.Rows.{lengthsOf, gatesOf, gatedomainsOf, stacksOf}
-use Rattle.image.proofs.Joined.{joined-append, joined-snoc, rows-length}
+use Rattle.image_format.proofs.Joined.{joined-append, joined-snoc, rows-length}
 use Rattle.roundtrips.proofs.Good.{All, all-at, Good, GoodDomain}
 use Rattle.roundtrips.proofs.AcceptedSound.{noSegment, noDomain, map-at, rows-size}
 use Rattle.roundtrips.proofs.LayoutBack.{rows-at}

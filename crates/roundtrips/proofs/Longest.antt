@@ -10,8 +10,8 @@ use Rattle.state.specs.declared.record.Layout.{Layout}
 use Rattle.state.specs.Bases.{baseOf}
 use Rattle.layout_soundness.specs.SoundLayout.{allFrom, segmentTest, stackTest, rightsTest, startTest, layoutTest}
 use Rattle.soundness.proofs.Facts.{LayoutSound, layout-facts}
-use Rattle.image.specs.Image.{imageOf, imageFrom, bytesOf}
-use Rattle.image.proofs.Sizes.{image-size}
+use Rattle.image_format.specs.Image.{imageOf, imageFrom, bytesOf}
+use Rattle.image_format.proofs.Sizes.{image-size}
 use Rattle.roundtrips.proofs.ReadBack.{image-back}
 use Rattle.roundtrips.proofs.LayoutBack.{Arrays, good-image, wide-image}
 

@@ -11,15 +11,15 @@ use Rattle.words.specs.Answer.{Answer, ok}
 use Rattle.words.specs.PointerWord.{pointerOf, pointerWord}
 use Rattle.words.specs.declared.pointer.Pointer.{Pointer}
 use Rattle.words.proofs.RoundTrips.{unpack-packed}
-use Rattle.image.specs.Bytes.{pairOf, pairBytes, wordOf, wordBytes, wordsOf, wordsBytes, joined}
-use Rattle.image.specs.Chunk.{chunkAt, headerOf, chunkOf, exactly, chunkBytes}
-use Rattle.image.specs.Head.{headFields, headBody, headOf, headBytes, startWord}
-use Rattle.image.specs.Segment.{Segment, wordCount, segmentLength, segmentFields, segmentBody, segmentOf, segmentsOf, segmentBytes, segmentsBytes, allWords}
-use Rattle.image.specs.Domain.{Domain, domainBody, domainOf, domainsOf, domainBytes, domainsBytes}
-use Rattle.image.specs.Image.{Image, endOf, imageOf, bytesOf}
-use Rattle.image.specs.declared.Head.{Head}
+use Rattle.image_format.specs.Bytes.{pairOf, pairBytes, wordOf, wordBytes, wordsOf, wordsBytes, joined}
+use Rattle.image_format.specs.Chunk.{chunkAt, headerOf, chunkOf, exactly, chunkBytes}
+use Rattle.image_format.specs.Head.{headFields, headBody, headOf, headBytes, startWord}
+use Rattle.image_format.specs.Segment.{Segment, wordCount, segmentLength, segmentFields, segmentBody, segmentOf, segmentsOf, segmentBytes, segmentsBytes, allWords}
+use Rattle.image_format.specs.Domain.{Domain, domainBody, domainOf, domainsOf, domainBytes, domainsBytes}
+use Rattle.image_format.specs.Image.{Image, endOf, imageOf, bytesOf}
+use Rattle.image_format.specs.declared.Head.{Head}
 use Rattle.roundtrips.proofs.Good.{All, Good, GoodSegment, GoodDomain}
-use Rattle.image.proofs.Written.{words-size}
+use Rattle.image_format.proofs.Written.{words-size}
 
 -- every number of a list is below n
 abbrev pub Below : ℕ → List ℕ → Type 0

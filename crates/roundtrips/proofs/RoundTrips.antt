@@ -14,11 +14,11 @@ use Rattle.state.specs.Bases.{wordsIn}
 use Rattle.soundness.specs.Sound.{soundTest}
 use Rattle.fresh.specs.Fresh.{freshOf}
 use Rattle.soundness.proofs.Facts.{sound-facts}
-use Rattle.image.specs.Segment.{allWords}
-use Rattle.image.specs.Image.{Image, imageOf, imageFrom, bytesOf, layoutOf, segmentsIn}
+use Rattle.image_format.specs.Segment.{allWords}
+use Rattle.image_format.specs.Image.{Image, imageOf, imageFrom, bytesOf, layoutOf, segmentsIn}
 use Rattle.image_reader.specs.Reader.{readOf, machineAfter, memoryAfter}
 use Rattle.image_writer.specs.Writer.{writeOf}
-use Rattle.image.proofs.Answers.{passed, test, after, the-value}
+use Rattle.image_format.proofs.Answers.{passed, test, after, the-value}
 use Rattle.roundtrips.proofs.Accepted.{accepted, longest}
 use Rattle.roundtrips.proofs.AcceptedSound.{accepted-sound}
 use Rattle.roundtrips.proofs.ReadBack.{Below, image-back}

@@ -11,18 +11,18 @@ use borrow.Author.Tests.{ltb-true, ltb-false, eqb-true}
 use Rattle.words.specs.Answer.{ok}
 use Rattle.words.specs.PointerWord.{pointerWord}
 use Rattle.words.proofs.RoundTrips.{pack-unpacked}
-use Rattle.image.specs.Bytes.{pairOf, pairBytes, wordOf, wordBytes, wordsOf, wordsBytes, joined}
-use Rattle.image.specs.Chunk.{Read, chunkOf, exactly, chunkBytes}
-use Rattle.image.specs.Head.{headBytes, startWord}
-use Rattle.image.specs.Segment.{Segment, wordCount, segmentOf, segmentsOf, segmentBytes, segmentsBytes}
-use Rattle.image.specs.Domain.{Domain, domainOf, domainsOf, domainBytes, domainsBytes}
-use Rattle.image.specs.Image.{Image, endOf, imageOf, bytesOf}
-use Rattle.image.specs.declared.Head.{Head}
-use Rattle.image.proofs.Answers.{test, bound}
-use Rattle.image.proofs.Bodies.{body-length}
-use Rattle.image.proofs.Chunks.{chunk-facts, exact-size}
-use Rattle.image.proofs.Segments.{segment-facts}
-use Rattle.image.proofs.Images.{image-facts, head-facts, HeadRead, segments-facts, segments-end, segments-count, domains-facts, domains-end, domains-count}
+use Rattle.image_format.specs.Bytes.{pairOf, pairBytes, wordOf, wordBytes, wordsOf, wordsBytes, joined}
+use Rattle.image_format.specs.Chunk.{Read, chunkOf, exactly, chunkBytes}
+use Rattle.image_format.specs.Head.{headBytes, startWord}
+use Rattle.image_format.specs.Segment.{Segment, wordCount, segmentOf, segmentsOf, segmentBytes, segmentsBytes}
+use Rattle.image_format.specs.Domain.{Domain, domainOf, domainsOf, domainBytes, domainsBytes}
+use Rattle.image_format.specs.Image.{Image, endOf, imageOf, bytesOf}
+use Rattle.image_format.specs.declared.Head.{Head}
+use Rattle.image_format.proofs.Answers.{test, bound}
+use Rattle.image_format.proofs.Bodies.{body-length}
+use Rattle.image_format.proofs.Chunks.{chunk-facts, exact-size}
+use Rattle.image_format.proofs.Segments.{segment-facts}
+use Rattle.image_format.proofs.Images.{image-facts, head-facts, HeadRead, segments-facts, segments-end, segments-count, domains-facts, domains-end, domains-count}
 use Rattle.roundtrips.proofs.Good.{domain-facts}
 use Rattle.roundtrips.proofs.ReadBack.{Below}
 

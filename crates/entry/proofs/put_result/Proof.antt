@@ -3,7 +3,7 @@ use native.Mathlib.Omega.{arith}
 use mathlib.Core.List.{[], _∷_}
 use lib.ListN.{length-set}
 use lib.Seq.{sets-eq}
-use Rattle.image.specs.Bytes.{pairBytes}
+use Rattle.image_format.specs.Bytes.{pairBytes}
 use borrow.Author.Needs.{needs}
 use Rattle.entry.proofs.put_result.Statement.{statement}
 use Rattle.entry.proofs.put_result.Tie as tie

@@ -3,7 +3,7 @@ use mathlib.Core.Path.{_≡_, refl, sym, ap, _∙_}
 use borrow.Author.Tests.{le-leb, lt-leb}
 use Rattle.state.specs.declared.record.Machine.{Machine}
 use Rattle.fresh.specs.Fresh.{freshOf}
-use Rattle.image.specs.Image.{imageOf, layoutOf}
+use Rattle.image_format.specs.Image.{imageOf, layoutOf}
 use Rattle.image_reader.specs.Reader.{readOf, machineAfter, memoryAfter}
 use Rattle.image_reader.proofs.Stores.{Mapped, mapped-facts, mapped-refused}
 use borrow.Author.Needs.{needs}

@@ -4,15 +4,15 @@ use native.Mathlib.Omega.{arith}
 use mathlib.Core.Path.{ap, _∙_}
 use mathlib.Core.List.{List, _++_}
 use lib.ListN.{length, length-append}
-use Rattle.image.specs.Bytes.{pairBytes}
-use Rattle.image.specs.Head.{headBytes}
-use Rattle.image.specs.Segment.{segmentsBytes}
-use Rattle.image.specs.Domain.{domainsBytes}
-use Rattle.image.specs.Image.{segmentsIn, domainsIn, imageFrom, bytesOf}
-use Rattle.image.specs.Output.{written}
-use Rattle.image.specs.declared.Head.{Head}
-use Rattle.image.proofs.Written.{then-bytes, written-start}
-use Rattle.image.proofs.Sizes.{head-size, bytes-size, bytes-are}
+use Rattle.image_format.specs.Bytes.{pairBytes}
+use Rattle.image_format.specs.Head.{headBytes}
+use Rattle.image_format.specs.Segment.{segmentsBytes}
+use Rattle.image_format.specs.Domain.{domainsBytes}
+use Rattle.image_format.specs.Image.{segmentsIn, domainsIn, imageFrom, bytesOf}
+use Rattle.image_format.specs.Output.{written}
+use Rattle.image_format.specs.declared.Head.{Head}
+use Rattle.image_format.proofs.Written.{then-bytes, written-start}
+use Rattle.image_format.proofs.Sizes.{head-size, bytes-size, bytes-are}
 use borrow.Author.Needs.{needs}
 use Rattle.image_writer.proofs.put_image.Statement.{statement}
 use Rattle.image_writer.proofs.put_image.Tie as tie

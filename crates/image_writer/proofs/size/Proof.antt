@@ -6,7 +6,7 @@ use mathlib.Core.Path.{_≡_, sym, ap, _∙_}
 use borrow.Author.Needs.{needs}
 use lib.ListN.{length, length-map}
 use Rattle.soundness.proofs.Facts.{LayoutSound, layout-facts}
-use Rattle.image.proofs.Sizes.{image-size}
+use Rattle.image_format.proofs.Sizes.{image-size}
 use borrow.Author.Needs.{needs}
 use Rattle.image_writer.proofs.size.Statement.{statement}
 use Rattle.image_writer.proofs.size.Tie as tie

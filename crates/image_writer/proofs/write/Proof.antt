@@ -8,7 +8,7 @@ use lib.ListN.{length}
 use Rattle.words.specs.Answer.{ok}
 use Rattle.soundness.specs.Sound.{soundTest}
 use Rattle.soundness.proofs.Facts.{sound-facts}
-use Rattle.image.specs.Image.{imageFrom, bytesOf}
+use Rattle.image_format.specs.Image.{imageFrom, bytesOf}
 use Rattle.image_writer.specs.Writer.{writeOf, writtenOf, outputAfter}
 use borrow.Author.Needs.{needs}
 use Rattle.image_writer.proofs.write.Statement.{statement}

@@ -4,7 +4,7 @@ use mathlib.Core.Path.{_∙_}
 use native.Mathlib.Omega.{arith}
 use native.Mathlib.Nat.{add-zero}
 use lib.Seq.{getD-drop}
-use Rattle.image.specs.Bytes.{pairOf}
+use Rattle.image_format.specs.Bytes.{pairOf}
 use borrow.Author.Needs.{needs}
 use Rattle.image_reader.proofs.bytes.pair.Statement.{statement}
 use Rattle.image_reader.proofs.bytes.pair.Tie as tie

@@ -2,7 +2,7 @@
 use Prim.Native.Nat.{_+_, _*_}
 use mathlib.Core.Path.{_∙_}
 use lib.Seq.{drop-drop}
-use Rattle.image.specs.Bytes.{wordOf}
+use Rattle.image_format.specs.Bytes.{wordOf}
 use borrow.Author.Needs.{needs}
 use Rattle.image_reader.proofs.bytes.word.Statement.{statement}
 use Rattle.image_reader.proofs.bytes.word.Tie as tie

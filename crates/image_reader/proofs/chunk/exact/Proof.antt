@@ -1,7 +1,7 @@
 -- `image_reader::chunk::exact` meets its contract.
 use mathlib.Core.Path.{refl}
 use borrow.Author.Tests.{lt-leb, le-leb, ne-eqb, eq-eqb}
-use Rattle.image.specs.Chunk.{chunkOf}
+use Rattle.image_format.specs.Chunk.{chunkOf}
 use borrow.Author.Needs.{needs}
 use Rattle.image_reader.proofs.chunk.exact.Statement.{statement}
 use Rattle.image_reader.proofs.chunk.exact.Tie as tie

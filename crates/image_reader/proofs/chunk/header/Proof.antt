@@ -4,7 +4,7 @@ use native.Mathlib.Omega.{arith}
 use borrow.Author.Tests.{lt-leb, le-leb, ne-eqb, eq-eqb}
 use lib.ListN.{length, length-drop}
 use lib.Seq.{drop-drop}
-use Rattle.image.specs.Chunk.{headerOf}
+use Rattle.image_format.specs.Chunk.{headerOf}
 use borrow.Author.Needs.{needs}
 use Rattle.image_reader.proofs.chunk.header.Statement.{statement}
 use Rattle.image_reader.proofs.chunk.header.Tie as tie

@@ -6,10 +6,10 @@ use borrow.Author.Needs.{needs}
 use borrow.Author.Tests.{lt-ltb, le-ltb, not-true, not-false}
 use lib.ListN.{length, drop, length-drop}
 use Rattle.words.specs.Answer.{ok}
-use Rattle.image.specs.Chunk.{chunkAt, chunkOf, exactly}
-use Rattle.image.specs.Domain.{domainOf}
-use Rattle.image.proofs.Chunks.{exact-room}
-use Rattle.image.proofs.Bodies.{domain-body}
+use Rattle.image_format.specs.Chunk.{chunkAt, chunkOf, exactly}
+use Rattle.image_format.specs.Domain.{domainOf}
+use Rattle.image_format.proofs.Chunks.{exact-room}
+use Rattle.image_format.proofs.Bodies.{domain-body}
 use borrow.Author.Needs.{needs}
 use Rattle.image_reader.proofs.domain.domain_chunk.Statement.{statement}
 use Rattle.image_reader.proofs.domain.domain_chunk.Tie as tie

@@ -4,7 +4,7 @@ use native.Mathlib.Omega.{arith}
 use mathlib.Core.Path.{sym}
 use borrow.Author.Needs.{needs}
 use lib.ListN.{length}
-use Rattle.image.proofs.Padded.{padded-none}
+use Rattle.image_format.proofs.Padded.{padded-none}
 use Rattle.image_reader.proofs.DomainRows.{DomainsSoFar, domains-none, domains-done, domains-refused, domain-fits, domains-next}
 use Rattle.image_reader.proofs.domain.domain_chunks.Statement.{statement}
 use Rattle.image_reader.proofs.domain.domain_chunks.Tie as tie

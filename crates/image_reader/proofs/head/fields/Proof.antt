@@ -1,6 +1,6 @@
 -- `image_reader::head::fields` meets its contract.
 use borrow.Author.Tests.{lt-leb, le-leb, lt-ltb, le-ltb, ne-eqb, eq-eqb}
-use Rattle.image.specs.Head.{headFields}
+use Rattle.image_format.specs.Head.{headFields}
 use borrow.Author.Needs.{needs}
 use Rattle.image_reader.proofs.head.fields.Statement.{statement}
 use Rattle.image_reader.proofs.head.fields.Tie as tie

@@ -4,10 +4,10 @@ use native.Mathlib.Omega.{arith}
 use mathlib.Core.Path.{_≡_, sym, _∙_}
 use lib.ListN.{length}
 use Rattle.words.specs.Answer.{ok}
-use Rattle.image.specs.Chunk.{chunkAt, chunkOf, exactly}
-use Rattle.image.specs.Head.{headOf}
-use Rattle.image.proofs.Chunks.{exact-room}
-use Rattle.image.proofs.Bodies.{head-body}
+use Rattle.image_format.specs.Chunk.{chunkAt, chunkOf, exactly}
+use Rattle.image_format.specs.Head.{headOf}
+use Rattle.image_format.proofs.Chunks.{exact-room}
+use Rattle.image_format.proofs.Bodies.{head-body}
 use borrow.Author.Needs.{needs}
 use Rattle.image_reader.proofs.head.head_chunk.Statement.{statement}
 use Rattle.image_reader.proofs.head.head_chunk.Tie as tie

@@ -5,9 +5,9 @@ use mathlib.Core.Path.{_≡_, sym, _∙_}
 use borrow.Author.Tests.{ne-eqb, eq-eqb}
 use lib.ListN.{length, drop, length-drop}
 use Rattle.words.specs.Answer.{ok}
-use Rattle.image.specs.Chunk.{chunkAt, chunkOf, exactly}
-use Rattle.image.specs.Image.{endOf}
-use Rattle.image.proofs.Chunks.{exact-room}
+use Rattle.image_format.specs.Chunk.{chunkAt, chunkOf, exactly}
+use Rattle.image_format.specs.Image.{endOf}
+use Rattle.image_format.proofs.Chunks.{exact-room}
 use borrow.Author.Needs.{needs}
 use Rattle.image_reader.proofs.judge.end.Statement.{statement}
 use Rattle.image_reader.proofs.judge.end.Tie as tie

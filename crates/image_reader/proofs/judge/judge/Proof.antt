@@ -1,7 +1,7 @@
 -- `image_reader::judge::judge` meets its contract.
 use Prim.Native.Nat.{_≤_}
 use mathlib.Core.Path.{sym, _∙_}
-use Rattle.image.proofs.Images.{head-ranges}
+use Rattle.image_format.proofs.Images.{head-ranges}
 use Rattle.image_reader.proofs.Judged.{judged-is}
 use borrow.Author.Needs.{needs}
 use Rattle.image_reader.proofs.judge.judge.Statement.{statement}

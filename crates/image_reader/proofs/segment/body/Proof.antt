@@ -2,7 +2,7 @@
 use Prim.Native.Nat.{_+_, _≤_}
 use native.Mathlib.Omega.{arith}
 use lib.ListN.{length, drop, length-drop}
-use Rattle.image.proofs.Bodies.{segment-body}
+use Rattle.image_format.proofs.Bodies.{segment-body}
 use borrow.Author.Needs.{needs}
 use Rattle.image_reader.proofs.segment.body.Statement.{statement}
 use Rattle.image_reader.proofs.segment.body.Tie as tie

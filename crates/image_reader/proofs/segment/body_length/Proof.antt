@@ -1,6 +1,6 @@
 -- `image_reader::segment::body_length` meets its contract.
 use borrow.Author.Tests.{lt-leb, le-leb, ne-eqb, eq-eqb}
-use Rattle.image.specs.Segment.{segmentLength}
+use Rattle.image_format.specs.Segment.{segmentLength}
 use borrow.Author.Needs.{needs}
 use Rattle.image_reader.proofs.segment.body_length.Statement.{statement}
 use Rattle.image_reader.proofs.segment.body_length.Tie as tie

@@ -1,6 +1,6 @@
 -- `image_reader::segment::fields` meets its contract.
 use borrow.Author.Tests.{lt-leb, le-leb, lt-ltb, le-ltb, ne-eqb, eq-eqb}
-use Rattle.image.specs.Segment.{segmentFields}
+use Rattle.image_format.specs.Segment.{segmentFields}
 use Rattle.image_reader.proofs.segment.fields.Statement.{statement}
 use Rattle.image_reader.proofs.segment.fields.Tie as tie
 

@@ -3,9 +3,9 @@ use native.Mathlib.Omega.{arith}
 use mathlib.Core.Path.{sym, _∙_}
 use borrow.Author.Tests.{lt-leb, le-leb}
 use lib.ListN.{length-drop}
-use Rattle.image.specs.Chunk.{chunkOf}
-use Rattle.image.specs.Segment.{segmentOf}
-use Rattle.image.proofs.Segments.{length-some}
+use Rattle.image_format.specs.Chunk.{chunkOf}
+use Rattle.image_format.specs.Segment.{segmentOf}
+use Rattle.image_format.proofs.Segments.{length-some}
 use borrow.Author.Needs.{needs}
 use Rattle.image_reader.proofs.segment.segment_chunk.Statement.{statement}
 use Rattle.image_reader.proofs.segment.segment_chunk.Tie as tie

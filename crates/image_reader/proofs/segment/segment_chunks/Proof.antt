@@ -2,7 +2,7 @@
 use Prim.Native.Nat.{_-_}
 use mathlib.Core.Path.{sym}
 use borrow.Author.Needs.{needs}
-use Rattle.image.proofs.Padded.{padded-none}
+use Rattle.image_format.proofs.Padded.{padded-none}
 use Rattle.image_reader.proofs.SegmentRows.{SegmentsSoFar, segments-none, segments-done, segments-refused, row-fits, segments-next}
 use Rattle.image_reader.proofs.segment.segment_chunks.Statement.{statement}
 use Rattle.image_reader.proofs.segment.segment_chunks.Tie as tie

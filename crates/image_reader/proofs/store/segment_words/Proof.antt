@@ -6,8 +6,8 @@ use mathlib.Core.Path.{_≡_, refl, sym, ap, _∙_}
 use borrow.Author.Needs.{needs}
 use lib.ListN.{length, getD, drop, length-set}
 use lib.Seq.{drop-drop, paste, paste-zero, paste-suc}
-use Rattle.image.specs.Bytes.{wordOf, wordsOf}
-use Rattle.image.proofs.Parts.{words-length, words-at}
+use Rattle.image_format.specs.Bytes.{wordOf, wordsOf}
+use Rattle.image_format.proofs.Parts.{words-length, words-at}
 use Rattle.image_reader.proofs.store.segment_words.Statement.{statement}
 use Rattle.image_reader.proofs.store.segment_words.Tie as tie
 

@@ -5,12 +5,12 @@ use mathlib.Core.Path.{_≡_, refl, ap, _∙_}
 use mathlib.Core.List.{_∷_, _++_}
 use lib.ListN.{length, length-set, take, drop, length-drop}
 use lib.Seq.{length-take-le}
-use Rattle.image.specs.Bytes.{pairBytes}
-use Rattle.image.specs.Chunk.{chunkBytes}
-use Rattle.image.specs.Domain.{Domain, domainBytes}
-use Rattle.image.specs.Output.{written}
-use Rattle.image.proofs.Written.{then-byte, then-bytes, then-length}
-use Rattle.image.proofs.Sizes.{domain-size}
+use Rattle.image_format.specs.Bytes.{pairBytes}
+use Rattle.image_format.specs.Chunk.{chunkBytes}
+use Rattle.image_format.specs.Domain.{Domain, domainBytes}
+use Rattle.image_format.specs.Output.{written}
+use Rattle.image_format.proofs.Written.{then-byte, then-bytes, then-length}
+use Rattle.image_format.proofs.Sizes.{domain-size}
 use borrow.Author.Needs.{needs}
 use Rattle.image_writer.proofs.chunk_output.put_domain.Statement.{statement}
 use Rattle.image_writer.proofs.chunk_output.put_domain.Tie as tie

@@ -5,10 +5,10 @@ use mathlib.Core.Path.{_≡_, sym, ap, _∙_}
 use borrow.Author.Needs.{needs}
 use lib.ListN.{length, length-map}
 use Rattle.soundness.proofs.Facts.{LayoutSound, layout-facts}
-use Rattle.image.specs.Domain.{Domain, domainBytes}
-use Rattle.image.specs.Image.{domainAt}
-use Rattle.image.proofs.Written.{RowsPut, put-none, put-length, put-done, put-room, put-next}
-use Rattle.image.proofs.Sizes.{domain-size, domain-rights}
+use Rattle.image_format.specs.Domain.{Domain, domainBytes}
+use Rattle.image_format.specs.Image.{domainAt}
+use Rattle.image_format.proofs.Written.{RowsPut, put-none, put-length, put-done, put-room, put-next}
+use Rattle.image_format.proofs.Sizes.{domain-size, domain-rights}
 use Rattle.image_writer.proofs.chunk_output.put_domains.Statement.{statement}
 use Rattle.image_writer.proofs.chunk_output.put_domains.Tie as tie
 

@@ -2,12 +2,12 @@
 use native.Mathlib.Omega.{arith}
 use mathlib.Core.Path.{_≡_, refl, _∙_}
 use lib.ListN.{length-set}
-use Rattle.image.specs.Bytes.{pairBytes, wordBytes}
-use Rattle.image.specs.Chunk.{chunkBytes}
-use Rattle.image.specs.Head.{headBytes}
-use Rattle.image.specs.Output.{written}
-use Rattle.image.proofs.Written.{then-byte, then-bytes, then-length}
-use Rattle.image.proofs.Sizes.{head-size}
+use Rattle.image_format.specs.Bytes.{pairBytes, wordBytes}
+use Rattle.image_format.specs.Chunk.{chunkBytes}
+use Rattle.image_format.specs.Head.{headBytes}
+use Rattle.image_format.specs.Output.{written}
+use Rattle.image_format.proofs.Written.{then-byte, then-bytes, then-length}
+use Rattle.image_format.proofs.Sizes.{head-size}
 use borrow.Author.Needs.{needs}
 use Rattle.image_writer.proofs.chunk_output.put_head.Statement.{statement}
 use Rattle.image_writer.proofs.chunk_output.put_head.Tie as tie

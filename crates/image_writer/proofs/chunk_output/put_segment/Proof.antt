@@ -5,12 +5,12 @@ use mathlib.Core.Path.{_≡_, refl, ap, _∙_}
 use mathlib.Core.List.{_∷_, _++_}
 use lib.ListN.{length, length-set, take, drop, length-drop}
 use lib.Seq.{length-take-le}
-use Rattle.image.specs.Bytes.{pairBytes, wordsBytes}
-use Rattle.image.specs.Chunk.{chunkBytes}
-use Rattle.image.specs.Segment.{Segment, segmentBytes}
-use Rattle.image.specs.Output.{written}
-use Rattle.image.proofs.Written.{then-byte, then-bytes, then-length, words-size}
-use Rattle.image.proofs.Sizes.{segment-size}
+use Rattle.image_format.specs.Bytes.{pairBytes, wordsBytes}
+use Rattle.image_format.specs.Chunk.{chunkBytes}
+use Rattle.image_format.specs.Segment.{Segment, segmentBytes}
+use Rattle.image_format.specs.Output.{written}
+use Rattle.image_format.proofs.Written.{then-byte, then-bytes, then-length, words-size}
+use Rattle.image_format.proofs.Sizes.{segment-size}
 use borrow.Author.Needs.{needs}
 use Rattle.image_writer.proofs.chunk_output.put_segment.Statement.{statement}
 use Rattle.image_writer.proofs.chunk_output.put_segment.Tie as tie

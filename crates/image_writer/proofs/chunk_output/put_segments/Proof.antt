@@ -7,11 +7,11 @@ use lib.ListN.{length, getD, take, drop}
 use Rattle.state.specs.Bases.{baseOf}
 use Rattle.state.proofs.Sums.{base-next, base-zero}
 use Rattle.soundness.proofs.Facts.{LayoutSound, layout-facts}
-use Rattle.image.specs.Segment.{Segment, segmentBytes}
-use Rattle.image.specs.Image.{segmentAt}
-use Rattle.image.specs.Output.{written}
-use Rattle.image.proofs.Written.{RowsPut, put-none, put-length, put-done, put-room, put-next}
-use Rattle.image.proofs.Sizes.{segment-size, segment-words, base-fits}
+use Rattle.image_format.specs.Segment.{Segment, segmentBytes}
+use Rattle.image_format.specs.Image.{segmentAt}
+use Rattle.image_format.specs.Output.{written}
+use Rattle.image_format.proofs.Written.{RowsPut, put-none, put-length, put-done, put-room, put-next}
+use Rattle.image_format.proofs.Sizes.{segment-size, segment-words, base-fits}
 use Rattle.image_writer.proofs.chunk_output.put_segments.Statement.{statement}
 use Rattle.image_writer.proofs.chunk_output.put_segments.Tie as tie
 

@@ -6,7 +6,7 @@ use mathlib.Core.Path.{_≡_, refl, ap, _∙_}
 use borrow.Author.Needs.{needs}
 use lib.ListN.{length, drop, length-drop, length-set}
 use lib.Seq.{getD-drop, paste, paste-zero, paste-suc}
-use Rattle.image.proofs.Written.{written-paste}
+use Rattle.image_format.proofs.Written.{written-paste}
 use Rattle.image_writer.proofs.output.put_bytes.Statement.{statement}
 use Rattle.image_writer.proofs.output.put_bytes.Tie as tie
 

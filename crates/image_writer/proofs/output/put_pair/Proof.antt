@@ -1,8 +1,8 @@
 -- `image_writer::output::put_pair` meets its contract.
 use native.Mathlib.Omega.{arith}
 use lib.ListN.{length-set}
-use Rattle.image.specs.Bytes.{pairBytes}
-use Rattle.image.proofs.Written.{written-two}
+use Rattle.image_format.specs.Bytes.{pairBytes}
+use Rattle.image_format.proofs.Written.{written-two}
 use borrow.Author.Needs.{needs}
 use Rattle.image_writer.proofs.output.put_pair.Statement.{statement}
 use Rattle.image_writer.proofs.output.put_pair.Tie as tie

@@ -5,9 +5,9 @@ use mathlib.Core.Path.{_≡_, refl, sym, ap, _∙_}
 use borrow.Author.Needs.{needs}
 use lib.ListN.{length, take, drop, length-drop}
 use lib.Seq.{getD-drop, length-take-le}
-use Rattle.image.specs.Bytes.{wordBytes, wordsBytes, joined}
-use Rattle.image.specs.Output.{written}
-use Rattle.image.proofs.Written.{written-none, written-length, words-more, words-size}
+use Rattle.image_format.specs.Bytes.{wordBytes, wordsBytes, joined}
+use Rattle.image_format.specs.Output.{written}
+use Rattle.image_format.proofs.Written.{written-none, written-length, words-more, words-size}
 use Rattle.image_writer.proofs.output.put_words.Statement.{statement}
 use Rattle.image_writer.proofs.output.put_words.Tie as tie
 

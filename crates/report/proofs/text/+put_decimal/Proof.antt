@@ -4,8 +4,8 @@ use native.Mathlib.Omega.{arith}
 use mathlib.Core.List.{[]}
 use mathlib.Core.Path.{refl, sym, ap, _∙_}
 use lib.ListN.{length, length-set}
-use Rattle.image.specs.Output.{written}
-use Rattle.image.proofs.Written.{written-none, then-byte}
+use Rattle.image_format.specs.Output.{written}
+use Rattle.image_format.proofs.Written.{written-none, then-byte}
 use Rattle.report.specs.Text.{decimal}
 use Rattle.report.proofs.Decimals.{decimal-one, decimal-more, more-size}
 use borrow.Author.Needs.{needs}

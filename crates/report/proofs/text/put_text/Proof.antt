@@ -6,8 +6,8 @@ use mathlib.Core.Path.{_≡_, refl, ap, _∙_}
 use borrow.Author.Needs.{needs}
 use lib.ListN.{length, length-set}
 use lib.Seq.{paste, paste-zero, paste-suc, take-all}
-use Rattle.image.specs.Output.{written}
-use Rattle.image.proofs.Written.{written-paste}
+use Rattle.image_format.specs.Output.{written}
+use Rattle.image_format.proofs.Written.{written-paste}
 use Rattle.report.proofs.text.put_text.Statement.{statement}
 use Rattle.report.proofs.text.put_text.Tie as tie
 

@@ -5,7 +5,7 @@ use mathlib.Core.Path.{_≡_, refl, sym, ap, _∙_}
 use mathlib.Core.List.{List, _∷_}
 use lib.ListN.{length, getD, take, drop}
 use lib.Seq.{getD-take, getD-drop, drop-drop}
-use Rattle.image.specs.Bytes.{pairOf, wordOf, wordsOf}
+use Rattle.image_format.specs.Bytes.{pairOf, wordOf, wordsOf}
 
 -- bytes that agree at the first n places
 abbrev pub Agree : ℕ → List ℕ → List ℕ → Type 0

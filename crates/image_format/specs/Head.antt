@@ -9,9 +9,9 @@ use Rattle.words.specs.PointerWord.{pointerOf, pointerWord}
 use Rattle.words.specs.declared.pointer.Pointer.{Pointer}
 use Rattle.state.specs.declared.record.Start.{Start}
 use Rattle.words.specs.Numbers.{badField}
-use Rattle.image.specs.Bytes.{wordOf, wordBytes}
-use Rattle.image.specs.Chunk.{Read, chunkOf, chunkBytes, exactly}
-use Rattle.image.specs.declared.Head.{Head}
+use Rattle.image_format.specs.Bytes.{wordOf, wordBytes}
+use Rattle.image_format.specs.Chunk.{Read, chunkOf, chunkBytes, exactly}
+use Rattle.image_format.specs.declared.Head.{Head}
 
 -- an untagged pointer into a segment that exists
 abbrev pub located : ℕ → Answer Pointer → Answer Pointer

@@ -10,15 +10,15 @@ use lib.ListN.{length, getD, take, drop}
 use Rattle.words.specs.Answer.{Answer, refuse, ok, _>>_, require}
 use Rattle.words.specs.PointerWord.{pointerOf}
 use Rattle.words.specs.declared.pointer.Pointer.{Pointer}
-use Rattle.image.specs.Bytes.{pairOf, wordOf}
-use Rattle.image.specs.Chunk.{Read, chunkAt, chunkOf, exactly}
-use Rattle.image.specs.Head.{located, headFields, headBody, headRead, headOf}
-use Rattle.image.specs.Segment.{Segment, segmentOf, segmentsOf}
-use Rattle.image.specs.Domain.{Domain, domainOf, domainsOf}
-use Rattle.image.specs.Image.{Image, endOf, imageOf}
-use Rattle.image.specs.declared.Head.{Head}
-use Rattle.image.proofs.Answers.{no-value, passed, test, after, bound, the-value}
-use Rattle.image.proofs.Chunks.{chunk-facts, exact-size}
+use Rattle.image_format.specs.Bytes.{pairOf, wordOf}
+use Rattle.image_format.specs.Chunk.{Read, chunkAt, chunkOf, exactly}
+use Rattle.image_format.specs.Head.{located, headFields, headBody, headRead, headOf}
+use Rattle.image_format.specs.Segment.{Segment, segmentOf, segmentsOf}
+use Rattle.image_format.specs.Domain.{Domain, domainOf, domainsOf}
+use Rattle.image_format.specs.Image.{Image, endOf, imageOf}
+use Rattle.image_format.specs.declared.Head.{Head}
+use Rattle.image_format.proofs.Answers.{no-value, passed, test, after, bound, the-value}
+use Rattle.image_format.proofs.Chunks.{chunk-facts, exact-size}
 
 pub record Located (segments : ℕ) (a : Answer Pointer) (p : Pointer) : Type 0 where
   pub is : a ≡ ok p

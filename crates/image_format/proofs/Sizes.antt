@@ -10,15 +10,15 @@ use Rattle.state.specs.declared.record.Layout.{Layout}
 use Rattle.state.specs.Bases.{baseOf, wordsIn}
 use Rattle.state.proofs.Sums.{base-next, base-zero, base-apart}
 use Rattle.soundness.proofs.Facts.{LayoutSound}
-use Rattle.image.specs.Bytes.{pairBytes, wordBytes, joined}
-use Rattle.image.specs.Chunk.{chunkBytes}
-use Rattle.image.specs.Head.{headBytes}
-use Rattle.image.specs.Segment.{Segment, segmentBytes, segmentsBytes}
-use Rattle.image.specs.Domain.{Domain, domainBytes, domainsBytes}
-use Rattle.image.specs.Image.{rowsFrom, segmentAt, domainAt, segmentsIn, domainsIn, imageFrom, bytesOf}
-use Rattle.image.specs.declared.Head.{Head}
-use Rattle.image.proofs.Joined.{joined-snoc, rows-next, rows-length}
-use Rattle.image.proofs.Written.{words-size}
+use Rattle.image_format.specs.Bytes.{pairBytes, wordBytes, joined}
+use Rattle.image_format.specs.Chunk.{chunkBytes}
+use Rattle.image_format.specs.Head.{headBytes}
+use Rattle.image_format.specs.Segment.{Segment, segmentBytes, segmentsBytes}
+use Rattle.image_format.specs.Domain.{Domain, domainBytes, domainsBytes}
+use Rattle.image_format.specs.Image.{rowsFrom, segmentAt, domainAt, segmentsIn, domainsIn, imageFrom, bytesOf}
+use Rattle.image_format.specs.declared.Head.{Head}
+use Rattle.image_format.proofs.Joined.{joined-snoc, rows-next, rows-length}
+use Rattle.image_format.proofs.Written.{words-size}
 
 pub head-size : (h : Head) → length (headBytes h) ≡ 12
 unfolding headBytes chunkBytes wordBytes pairBytes

@@ -6,8 +6,8 @@ use lib.Dec.{leb, ltb}
 use lib.ListN.{getD, drop}
 use Rattle.words.specs.Answer.{Answer, ok, _>>=_, _>>_, require}
 use Rattle.words.specs.Numbers.{badField}
-use Rattle.image.specs.Bytes.{joined}
-use Rattle.image.specs.Chunk.{Read, chunkOf, chunkBytes, exactly}
+use Rattle.image_format.specs.Bytes.{joined}
+use Rattle.image_format.specs.Chunk.{Read, chunkOf, chunkBytes, exactly}
 
 -- a domain of an image
 pub record Domain : Type 0 where

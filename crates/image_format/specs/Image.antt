@@ -8,11 +8,11 @@ use Rattle.state.specs.declared.record.Start.{Start}
 use Rattle.state.specs.declared.record.Layout.{Layout}
 use Rattle.state.specs.Bases.{baseOf}
 use Rattle.words.specs.Numbers.{bytesLeft}
-use Rattle.image.specs.Bytes.{joined}
-use Rattle.image.specs.Chunk.{chunkOf, chunkBytes, exactly}
-use Rattle.image.specs.Head.{headOf, headBytes}
-use Rattle.image.specs.Segment.{Segment, segmentsOf, segmentsBytes}
-use Rattle.image.specs.Domain.{Domain, domainsOf, domainsBytes}
+use Rattle.image_format.specs.Bytes.{joined}
+use Rattle.image_format.specs.Chunk.{chunkOf, chunkBytes, exactly}
+use Rattle.image_format.specs.Head.{headOf, headBytes}
+use Rattle.image_format.specs.Segment.{Segment, segmentsOf, segmentsBytes}
+use Rattle.image_format.specs.Domain.{Domain, domainsOf, domainsBytes}
 
 -- what an image holds
 pub record Image : Type 0 where

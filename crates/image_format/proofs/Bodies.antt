@@ -7,13 +7,13 @@ use lib.ListN.{length, getD, take, drop, length-drop}
 use lib.Dec.{ltb}
 use lib.Seq.{length-take-le, getD-take, getD-drop, drop-drop, ext-getD}
 use Rattle.words.specs.Answer.{ok, _>>_, require}
-use Rattle.image.specs.Bytes.{pairOf, wordOf, wordsOf}
-use Rattle.image.specs.Chunk.{Read, chunkAt}
-use Rattle.image.specs.Head.{headFields, headBody}
-use Rattle.image.specs.Domain.{allRights, domainBody, domainRead}
-use Rattle.image.specs.Segment.{Segment, wordCount, segmentFields, segmentBody, segmentRead}
-use Rattle.image.proofs.Answers.{then-ok}
-use Rattle.image.proofs.Parts.{pair-same, word-same, words-same, body-at, body-from, body-start}
+use Rattle.image_format.specs.Bytes.{pairOf, wordOf, wordsOf}
+use Rattle.image_format.specs.Chunk.{Read, chunkAt}
+use Rattle.image_format.specs.Head.{headFields, headBody}
+use Rattle.image_format.specs.Domain.{allRights, domainBody, domainRead}
+use Rattle.image_format.specs.Segment.{Segment, wordCount, segmentFields, segmentBody, segmentRead}
+use Rattle.image_format.proofs.Answers.{then-ok}
+use Rattle.image_format.proofs.Parts.{pair-same, word-same, words-same, body-at, body-from, body-start}
 
 pub body-length : (bytes : List ℕ) (n : ℕ) → 4 + n ≤ length bytes → length (take n (drop 4 bytes)) ≡ n
 body-length bytes n h = length-take-le n (drop 4 bytes) (omega (arith, length-drop 4 bytes))

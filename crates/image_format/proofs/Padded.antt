@@ -5,7 +5,7 @@ use mathlib.Core.Path.{_≡_, refl, sym, ap, _∙_}
 use mathlib.Core.List.{List, [], _∷_, _++_, map}
 use lib.ListN.{length, set, replicate, length-append, length-replicate}
 use lib.Seq.{set-at, append-snoc}
-use Rattle.image.specs.Image.{padded}
+use Rattle.image_format.specs.Image.{padded}
 
 pub padded-none : (n : ℕ) → replicate n 0 ≡ padded n []
 unfolding padded

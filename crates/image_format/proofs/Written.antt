@@ -7,10 +7,10 @@ use mathlib.Core.Path.{_≡_, refl, sym, ap, _∙_}
 use mathlib.Core.List.{List, [], _∷_, _++_, append-assoc, append-nil}
 use lib.ListN.{length, getD, take, drop, set, length-append, length-drop, take-append-drop}
 use lib.Seq.{sets-eq, take-at, drop-append-add, drop-drop, length-take-le, paste, take-suc}
-use Rattle.image.specs.Bytes.{pairBytes, wordBytes, wordsBytes, joined}
-use Rattle.image.specs.Image.{rowsFrom}
-use Rattle.image.specs.Output.{written}
-use Rattle.image.proofs.Joined.{joined-snoc, rows-next, rows-most}
+use Rattle.image_format.specs.Bytes.{pairBytes, wordBytes, wordsBytes, joined}
+use Rattle.image_format.specs.Image.{rowsFrom}
+use Rattle.image_format.specs.Output.{written}
+use Rattle.image_format.proofs.Joined.{joined-snoc, rows-next, rows-most}
 
 pub written-none : (l : List ℕ) (at : ℕ) → l ≡ written l at []
 unfolding written

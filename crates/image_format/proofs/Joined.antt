@@ -5,8 +5,8 @@ use native.Mathlib.Nat.{add-zero, zero-add}
 use mathlib.Core.Path.{_≡_, refl, sym, ap, _∙_}
 use mathlib.Core.List.{List, [], _∷_, _++_, append-assoc, append-nil}
 use lib.ListN.{length, length-append}
-use Rattle.image.specs.Bytes.{joined}
-use Rattle.image.specs.Image.{rowsFrom}
+use Rattle.image_format.specs.Bytes.{joined}
+use Rattle.image_format.specs.Image.{rowsFrom}
 
 module _ {A : Type 0} (f : A → List ℕ) where
   pub joined-append : (xs ys : List A) → joined f (xs ++ ys) ≡ joined f xs ++ joined f ys

@@ -6,9 +6,9 @@ use borrow.Author.Tests.{leb-true, eqb-true}
 use lib.Dec.{leb, eqb}
 use lib.ListN.{length, drop}
 use Rattle.words.specs.Answer.{Answer, ok, _>>_, require}
-use Rattle.image.specs.Bytes.{pairOf}
-use Rattle.image.specs.Chunk.{Read, chunkAt, headerOf, chunkOf, exactly}
-use Rattle.image.proofs.Answers.{passed, test, after, bound, the-value}
+use Rattle.image_format.specs.Bytes.{pairOf}
+use Rattle.image_format.specs.Chunk.{Read, chunkAt, headerOf, chunkOf, exactly}
+use Rattle.image_format.proofs.Answers.{passed, test, after, bound, the-value}
 
 pub record Chunked (kind : ℕ) (allowed : ℕ → Answer (Unit {0})) (bytes : List ℕ) (c : Read (List ℕ)) : Type 0 where
   pub kind-is : pairOf (drop 2 bytes) ≡ kind

@@ -5,7 +5,7 @@ use lib.Dec.{eqb, leb}
 use lib.ListN.{length, take, drop}
 use Rattle.words.specs.Answer.{Answer, ok, _>>=_, _>>_, require}
 use Rattle.words.specs.Numbers.{cutShort, wrongKind, wrongLength}
-use Rattle.image.specs.Bytes.{pairOf, pairBytes}
+use Rattle.image_format.specs.Bytes.{pairOf, pairBytes}
 
 -- what was read from the front of some bytes, and the bytes after it
 pub record Read (A : Type 0) : Type 0 where

@@ -5,8 +5,8 @@ use lib.Dec.{eqb, leb, ltb}
 use lib.ListN.{length, getD, drop}
 use Rattle.words.specs.Answer.{Answer, ok, _>>=_, _>>_, require}
 use Rattle.words.specs.Numbers.{wrongLength, tooManyWords, badField}
-use Rattle.image.specs.Bytes.{pairOf, pairBytes, wordsOf, wordsBytes, joined}
-use Rattle.image.specs.Chunk.{Read, chunkOf, chunkBytes}
+use Rattle.image_format.specs.Bytes.{pairOf, pairBytes, wordsOf, wordsBytes, joined}
+use Rattle.image_format.specs.Chunk.{Read, chunkOf, chunkBytes}
 
 -- a segment of an image
 pub record Segment : Type 0 where

@@ -6,13 +6,13 @@ use borrow.Author.Tests.{leb-true, ltb-true, eqb-true}
 use lib.Dec.{leb, ltb, eqb}
 use lib.ListN.{length, getD, take, drop}
 use Rattle.words.specs.Answer.{ok, _>>_, require}
-use Rattle.image.specs.Bytes.{pairOf, wordsOf}
-use Rattle.image.specs.Chunk.{Read, chunkOf}
-use Rattle.image.specs.Segment.{Segment, wordCount, segmentLength, segmentFields, segmentBody, segmentOf}
-use Rattle.image.proofs.Answers.{passed, test, after, bound, the-value}
-use Rattle.image.proofs.Parts.{words-length}
-use Rattle.image.proofs.Bodies.{body-length}
-use Rattle.image.proofs.Chunks.{chunk-facts}
+use Rattle.image_format.specs.Bytes.{pairOf, wordsOf}
+use Rattle.image_format.specs.Chunk.{Read, chunkOf}
+use Rattle.image_format.specs.Segment.{Segment, wordCount, segmentLength, segmentFields, segmentBody, segmentOf}
+use Rattle.image_format.proofs.Answers.{passed, test, after, bound, the-value}
+use Rattle.image_format.proofs.Parts.{words-length}
+use Rattle.image_format.proofs.Bodies.{body-length}
+use Rattle.image_format.proofs.Chunks.{chunk-facts}
 
 pub record LengthPassed (room n : ℕ) : Type 0 where
   pub some : 8 ≤ n
