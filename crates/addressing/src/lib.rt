@@ -62,8 +62,8 @@ pub fn effective<'a>(
 {
     let base = pointer_at(pointers, i.base);
     match displace(base.word, i.offset) {
-        words::offset::WordAnswer::Refused(n) => PointerAnswer::Refused(n),
-        words::offset::WordAnswer::Word(word) => {
+        words::offset::WordNumberAnswer::Refused(n) => PointerAnswer::Refused(n),
+        words::offset::WordNumberAnswer::Word(word) => {
             let p = Pointer {
                 word,
                 segment: base.segment,

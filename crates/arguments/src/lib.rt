@@ -36,8 +36,8 @@ fn list_word<'a>(
     ensures { λ r. ⌜ wordAnswer r ≡ listWord (readOf (now (lengths .entry)) (now (rights .entry)) (now (bases .entry)) (now (words .entry)) domain depth frame) a k ⌝ }
 {
     match climb(a.word, k) {
-        words::offset::WordAnswer::Refused(n) => WordAnswer::Refused(n),
-        words::offset::WordAnswer::Word(word) => {
+        words::offset::WordNumberAnswer::Refused(n) => WordAnswer::Refused(n),
+        words::offset::WordNumberAnswer::Word(word) => {
             let p = Pointer {
                 word,
                 segment: a.segment,
@@ -256,8 +256,8 @@ fn frame_after<'a>(
                     return refuse(frame, 30);
                 }
                 match climb(a.word, 2) {
-                    words::offset::WordAnswer::Refused(number) => refuse(frame, number),
-                    words::offset::WordAnswer::Word(_) => {
+                    words::offset::WordNumberAnswer::Refused(number) => refuse(frame, number),
+                    words::offset::WordNumberAnswer::Word(_) => {
                         let r = arguments(
                             lengths,
                             rights,

@@ -1,16 +1,16 @@
 -- Crossings: calls through a gate and returns across domains (cross-domain calls and returns).
 use Prim.Native.Nat.{ℕ, _+_, _-_}
-use mathlib.Core.Bool.{Bool, true, false, _&&_}
+use mathlib.Core.Bool.{Bool, true, _&&_}
 use mathlib.Core.List.{List}
 use lib.Dec.{eqb, leb}
-use lib.ListN.{getD, set, replicate}
-use Rattle.words.specs.Answer.{Answer, refuse, ok, _>>=_, _>>_, require, if_then_else_}
+use lib.ListN.{getD, set}
+use Rattle.words.specs.Answer.{Answer, refuse, ok, _>>=_, _>>_, if_then_else_}
 use Rattle.words.specs.Numbers.{badReturn}
 use Rattle.words.specs.declared.pointer.Pointer.{Pointer}
 use Rattle.state.specs.declared.record.Frame.{Frame}
 use Rattle.state.specs.declared.record.Registers.{Registers}
 use Rattle.state.specs.declared.record.Machine.{Machine}
-use Rattle.state.specs.Record.{noPointer, noCapability, inUse, liveFrame}
+use Rattle.state.specs.Record.{noPointer, inUse, liveFrame, freeFrame}
 use Rattle.references.specs.declared.flag.Flag.the-variants as flag
 use Rattle.references.specs.Static.{staticOf}
 use Rattle.references.specs.Reference.{accept}
@@ -19,10 +19,6 @@ use Rattle.pointer_registers.specs.Stack.{withBase, stackOf}
 use Rattle.transfers.specs.Transfer.{gateDomainOf}
 use Rattle.crossings.specs.declared.crossing.Crossed.{Crossed}
 use Rattle.arguments.specs.ArgumentList.{frameOf}
-
--- a frame that is not in use
-abbrev pub freeFrame : Frame
-freeFrame = record { capabilities = replicate 9 noCapability; s = noPointer; back = noPointer; count = 0; domain = 0 }
 
 -- a pointer with its tag on
 abbrev pub tagged : Pointer → Pointer

@@ -5,7 +5,7 @@ ghost use Rattle.state.specs.Record.{noPointer};
 ghost use Rattle.memory.specs.Reader.{readOf};
 ghost use Rattle.transfers.specs.Transfer.{gateDomainOf};
 ghost use Rattle.arguments.specs.ArgumentList.{frameOf};
-ghost use Rattle.crossings.specs.Crossing.{freeFrame, samePlace, atPlace, withTag, leaveCheck, crossedAnswer, enterParts, leaveParts};
+ghost use Rattle.crossings.specs.Crossing.{samePlace, atPlace, withTag, leaveCheck, crossedAnswer, enterParts, leaveParts};
 use arguments::make_frame;
 use pointer_registers::pointer_at;
 use pointer_registers::stack_of;
@@ -13,7 +13,7 @@ use pointer_registers::with_base;
 use pointer_registers::with_pointer;
 use references::flag::Flag;
 use references::statics::static_check;
-use state::record::Capability;
+use state::frames::free_frame;
 use state::record::Frame;
 use state::record::Registers;
 use words::pointer::Pointer;
@@ -71,33 +71,6 @@ fn with_tag(pointers: [Pointer; 8]) -> [Pointer; 8]
         tag: true,
     };
     with_pointer(pointers, 0, on)
-}
-
-// A frame that is not in use.
-pub fn free_frame() -> Frame
-    ensures { λ r. ⌜ r ≡ freeFrame ⌝ }
-{
-    let none = Capability {
-        word: 0,
-        length: 0,
-        segment: 0,
-        source: 0,
-        read: false,
-        write: false,
-    };
-    let nowhere = Pointer {
-        word: 0,
-        segment: 0,
-        tag: false,
-    };
-    let capabilities = [none; 9];
-    Frame {
-        capabilities,
-        s: nowhere,
-        back: nowhere,
-        count: 0,
-        domain: 0,
-    }
 }
 
 // CALL through the gate at p.

@@ -6,8 +6,8 @@ use mathlib.Core.List.{List}
 use mathlib.Core.Path.{_≡_, subst}
 use Rattle.words.specs.Answer.{Answer, refuse, ok, _>>=_}
 use Rattle.state.specs.declared.record.Machine.{Machine}
-use Rattle.runs.specs.Step.{Event, stopped, moved, crossing, Done, execute}
-use Rattle.runs.specs.Run.{Ending, halted, spent, crossed, faulted, refused, afterEvent, after, runFrom}
+use Rattle.runs.specs.Step.{Completion, stopped, proceeded, crossing, Done, execute}
+use Rattle.runs.specs.Run.{Ending, halted, spent, crossed, faulted, refused, afterCompletion, after, runFrom}
 use Rattle.image_format.specs.Image.{Image, imageOf}
 use Rattle.entry.specs.ImageRun.{Final, finalOf, machineRun, imageRun}
 use Rattle.entry.specs.Entry.{endingByte}
@@ -20,10 +20,10 @@ Listed (faulted n) = Unit {0}
 Listed (refused n) = ⊥
 
 module _ (k n : ℕ) where
-  by-event : (m : Machine) (words : List ℕ) (e : Event) → Listed (runFrom false k (n + 1) m words .ending)
-      → Listed (afterEvent false (runFrom false k (n + 1)) n m words e .ending)
+  by-event : (m : Machine) (words : List ℕ) (e : Completion) → Listed (runFrom false k (n + 1) m words .ending)
+      → Listed (afterCompletion false (runFrom false k (n + 1)) n m words e .ending)
   by-event m words stopped h = tt
-  by-event m words moved h = h
+  by-event m words proceeded h = h
   by-event m words crossing h = h
 
   by-answer : (m : Machine) (words : List ℕ) (d : Answer Done) → ((m : Machine) (words : List ℕ) → Listed (runFrom false k (n + 1) m words .ending))

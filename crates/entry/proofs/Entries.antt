@@ -4,11 +4,11 @@ use mathlib.Core.List.{List, _++_}
 use mathlib.Core.Path.{_≡_, refl, sym, ap, _∙_}
 use borrow.Author.Tests.{le-leb, lt-leb}
 use lib.ListN.{length, drop}
-use Rattle.words.specs.Answer.{Answer, refuse, ok}
+use Rattle.words.specs.Answer.{Answer, refuse, ok, numberOf}
 use Rattle.image_format.specs.Bytes.{pairBytes}
 use Rattle.image_writer.specs.Writer.{outputAfter}
 use Rattle.entry.specs.ImageRun.{Final, imageRun}
-use Rattle.entry.specs.Entry.{resultBytes, entryOf, numberOf}
+use Rattle.entry.specs.Entry.{resultBytes, entryOf}
 
 -- the number and the buffer that come of an answer
 abbrev Gives : Answer (List ℕ) → List ℕ → ℕ → List ℕ → Type 0

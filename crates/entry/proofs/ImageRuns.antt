@@ -14,7 +14,7 @@ use Rattle.runs.specs.Run.{refused, judged, calledOf}
 use Rattle.processor.specs.Calls.{runOf, runCall}
 use Rattle.image_format.specs.Segment.{allWords}
 use Rattle.image_format.specs.Image.{Image, imageOf, layoutOf}
-use Rattle.image_reader.specs.Reader.{readOf, machineAfter, memoryAfter}
+use Rattle.image_reader.specs.Reader.{readImage, machineAfter, memoryAfter}
 use Rattle.image_reader.specs.declared.ReadAnswer.{ReadAnswer}
 use Rattle.roundtrips.proofs.Accepted.{accepted}
 use Rattle.roundtrips.proofs.AcceptedSound.{accepted-sound}
@@ -39,11 +39,11 @@ memory-length i h =
     (let e : n + length (drop n zeros) ≡ 8192 = omega (arith, length-drop n zeros, zeros-length) in e)
 
 module _ (limit : ℕ) (bytes : List ℕ) where
-  read-room : (words : List ℕ) → length words ≡ 8192 → readOf bytes words ≡ imageOf bytes
-  unfolding readOf
+  read-room : (words : List ℕ) → length words ≡ 8192 → readImage bytes words ≡ imageOf bytes
+  unfolding readImage
   read-room words l = simp (le-leb 8192 (length words) (omega arith))
 
-  read-zeros : readOf bytes zeros ≡ imageOf bytes
+  read-zeros : readImage bytes zeros ≡ imageOf bytes
   read-zeros = read-room zeros zeros-length
 
   refused-by : (a : Answer Image) → (machineAfter emptyMachine a .number ≡ 0 → ⊥)
@@ -53,7 +53,7 @@ module _ (limit : ℕ) (bytes : List ℕ) where
   refused-by (ok i) h = absurd (h refl)
 
   -- a refused image
-  pub refused-run : (r : ReadAnswer) → r ≡ machineAfter emptyMachine (readOf bytes zeros) → (r .number ≡ 0 → ⊥)
+  pub refused-run : (r : ReadAnswer) → r ≡ machineAfter emptyMachine (readImage bytes zeros) → (r .number ≡ 0 → ⊥)
       → record { machine = r .machine; count = 0; ending = refused (r .number) } ≡ closed (imageRun limit bytes)
   unfolding imageRun
   refused-run r e h = rw (e, read-zeros) (refused-by (imageOf bytes) (rw (e, read-zeros) at h))
@@ -69,7 +69,7 @@ module _ (limit : ℕ) (bytes : List ℕ) where
   passed-by (ok i) e h = ap finalOf (called (freshOf (layoutOf i)) (memoryOf i) (accepted-sound bytes i e) (memory-length i (accepted bytes i e .words)))
 
   -- an accepted image
-  pub passed-run : (r : ReadAnswer) (words : List ℕ) → r ≡ machineAfter emptyMachine (readOf bytes zeros) → words ≡ memoryAfter zeros (readOf bytes zeros) → r .number ≡ 0
+  pub passed-run : (r : ReadAnswer) (words : List ℕ) → r ≡ machineAfter emptyMachine (readImage bytes zeros) → words ≡ memoryAfter zeros (readImage bytes zeros) → r .number ≡ 0
       → finalOf (runCall limit (r .machine) words) ≡ closed (imageRun limit bytes)
   unfolding imageRun
   passed-run r words e w h = rw (e, w, read-zeros) (passed-by (imageOf bytes) refl (rw (e, read-zeros) at h))

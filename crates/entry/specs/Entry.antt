@@ -3,7 +3,7 @@ use Prim.Native.Nat.{ℕ}
 use mathlib.Core.List.{List, _∷_}
 use lib.Dec.{leb}
 use lib.ListN.{length}
-use Rattle.words.specs.Answer.{Answer, refuse, ok, _>>=_, _>>_, require}
+use Rattle.words.specs.Answer.{Answer, ok, _>>=_, _>>_, require}
 use Rattle.words.specs.Numbers.{outputTooShort}
 use Rattle.runs.specs.Run.{Ending, halted, spent, crossed, faulted, refused}
 use Rattle.image_format.specs.Bytes.{pairBytes}
@@ -32,8 +32,3 @@ resultBytes r = endingByte (r .ending) ∷ faultByte (r .ending) ∷ pairBytes (
 -- the bytes of the result, or the refusal; 8 comes before all of the image's
 unfoldable pub entryOf : List ℕ → ℕ → List ℕ → Answer (List ℕ)
 entryOf image limit result = require (leb 4 (length result)) outputTooShort >> (imageRun limit image >>= (λ r. ok (resultBytes r)))
-
--- the number that a call returns: 0, or the refusal
-abbrev pub numberOf : {A : Type 0} → Answer A → ℕ
-numberOf (refuse n) = n
-numberOf (ok a) = 0

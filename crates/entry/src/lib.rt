@@ -8,7 +8,8 @@ ghost use lib.ListN.{length, drop};
 ghost use Rattle.runs.specs.Resume.{endAnswer};
 ghost use Rattle.image_format.specs.Bytes.{pairBytes};
 ghost use Rattle.image_writer.specs.Writer.{outputAfter};
-ghost use Rattle.entry.specs.Entry.{endingByte, faultByte, entryOf, numberOf};
+ghost use Rattle.entry.specs.Entry.{endingByte, faultByte, entryOf};
+ghost use Rattle.words.specs.Answer.{numberOf};
 use crate::image_run::run_image;
 use runs::outcome::End;
 

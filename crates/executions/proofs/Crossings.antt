@@ -12,9 +12,9 @@ use Rattle.words.specs.declared.pointer.Pointer.{Pointer}
 use Rattle.state.specs.declared.record.Layout.{Layout}
 use Rattle.state.specs.declared.record.Frame.{Frame}
 use Rattle.state.specs.declared.record.Machine.{Machine}
-use Rattle.state.specs.Record.{noPointer, inUse}
+use Rattle.state.specs.Record.{noPointer, inUse, freeFrame}
 use Rattle.soundness.proofs.Facts.{PointerSound, PointersSound, FrameSound, LayoutSound, Sound}
-use Rattle.soundness.proofs.FreshSound.{zero-frame}
+use Rattle.soundness.proofs.FreshSound.{free-frame}
 use Rattle.soundness.proofs.Kept.{pointer-set, frame-pushed, frame-popped}
 use Rattle.references.specs.declared.flag.Flag.the-variants as flag
 use Rattle.references.specs.Static.{exists, staticOf}
@@ -22,7 +22,7 @@ use Rattle.references.proofs.Passes.{both, static-exists}
 use Rattle.memory.specs.Reader.{Reader}
 use Rattle.transfers.specs.Transfer.{gateDomainOf}
 use Rattle.pointer_registers.specs.Stack.{stackOf}
-use Rattle.crossings.specs.Crossing.{tagged, withTag, freeFrame, entered, left, samePlace, leaveCheck, enterOf, leaveOf}
+use Rattle.crossings.specs.Crossing.{tagged, withTag, entered, left, samePlace, leaveCheck, enterOf, leaveOf}
 use Rattle.executions.proofs.Says.{Says, says-bind, says-accept}
 use Rattle.executions.proofs.Plans.{base-sound, exists-sound}
 use Rattle.executions.proofs.Arguments.{LiveSound}
@@ -102,7 +102,7 @@ module _ (m : Machine) (w : Whole m) where
           layout = s .layout;
           registers = record { domain = sf .domain; segment = sp .segment; word = omega (arith, sp .word) };
           pointers = base-sound (set (m .pointers) 1 (f .s)) _ (pointer-set (m .pointers) 1 (f .s) (s .pointers) (sf .s)) (stack-most (m .layout) (s .layout) (f .domain));
-          frames = frame-popped domains (m .depth) (m .frames) (w .room) (s .frames) freeFrame some zero-frame;
+          frames = frame-popped domains (m .depth) (m .frames) (w .room) (s .frames) freeFrame some free-frame;
         };
         room = length-set (m .frames) (m .depth - 1) freeFrame ∙ w .room;
       }

@@ -7,8 +7,8 @@ use borrow.Author.Tests.{ne-eqb}
 use lib.Dec.{eqb}
 use Rattle.words.specs.Answer.{Answer, refuse, ok, if_then_else_}
 use Rattle.state.specs.declared.record.Machine.{Machine}
-use Rattle.runs.specs.Step.{Event, stopped, moved, crossing, Done, execute}
-use Rattle.runs.specs.Run.{Ran, ran, Ending, halted, spent, crossed, faulted, refused, after, afterEvent, runFrom, judged, calledOf}
+use Rattle.runs.specs.Step.{Completion, stopped, proceeded, crossing, Done, execute}
+use Rattle.runs.specs.Run.{Ran, ran, Ending, halted, spent, crossed, faulted, refused, after, afterCompletion, runFrom, judged, calledOf}
 use Rattle.processor.specs.Calls.{runOf, stretchOf, runCall, stretchCall, Step, stepped, stepCall}
 
 -- a step with this number that changed nothing
@@ -54,12 +54,12 @@ module _ (stretch : Bool) (k n : ℕ) where
   abbrev EndsSo : Ran → Type 0
   EndsSo r = Ends r (r .ending)
 
-  event-ends : (m : Machine) (words : List ℕ) (e : Event) → EndsSo (runFrom stretch k (n + 1) m words) → EndsSo (afterEvent stretch (runFrom stretch k (n + 1)) n m words e)
+  event-ends : (m : Machine) (words : List ℕ) (e : Completion) → EndsSo (runFrom stretch k (n + 1) m words) → EndsSo (afterCompletion stretch (runFrom stretch k (n + 1)) n m words e)
   event-ends m words stopped h = tt
-  event-ends m words moved h = h
+  event-ends m words proceeded h = h
   event-ends m words crossing h = by stretch h
     where
-      by : (t : Bool) → EndsSo (runFrom t k (n + 1) m words) → EndsSo (afterEvent t (runFrom t k (n + 1)) n m words crossing)
+      by : (t : Bool) → EndsSo (runFrom t k (n + 1) m words) → EndsSo (afterCompletion t (runFrom t k (n + 1)) n m words crossing)
       by true h = tt
       by false h = h
 

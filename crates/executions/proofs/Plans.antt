@@ -22,7 +22,7 @@ use Rattle.memory.specs.Reader.{Reader}
 use Rattle.addressing.specs.Effective.{effectiveOf}
 use Rattle.instructions.specs.Plan.{Plan, halt, move, store, enter, leave}
 use Rattle.instructions.specs.Instruction.{jumpOf, callOf, returnOf, loadOf, branchOf, isLoad, isStore, takenOf, effectOf, executeOf, planOf}
-use Rattle.transfers.specs.Transfer.{callWay, jumpCheck, gatesOf}
+use Rattle.transfers.specs.Transfer.{callWay, jumpCheck, gateCountOf}
 use Rattle.pointer_registers.specs.Stack.{withBase, stackOf}
 use Rattle.executions.proofs.Says.{Says, says-bind, says-then, says-if, says-accept}
 use Rattle.executions.proofs.Pointers.{BaseLt, base-lt, effective-sound}
@@ -74,7 +74,7 @@ call-way : (lengths gates rights : List ℕ) (d depth : ℕ) (p : Pointer) → S
 unfolding callWay
 call-way lengths gates rights d depth p =
     way (not (p .tag)) (exists lengths (p .segment) (p .word)) (has (rightsOf rights d (p .segment)) flag.Execute) (has (rightsOf rights d (p .segment)) flag.Gate)
-    (ltb (p .word) (gatesOf gates (p .segment))) (ltb depth 8)
+    (ltb (p .word) (gateCountOf gates (p .segment))) (ltb depth 8)
 
 module _ (lengths gates rights stacks : List ℕ) (depth : ℕ) (r : Registers) (pointers : List Pointer) where
   abbrev pub PlanSound : Plan → Type 0

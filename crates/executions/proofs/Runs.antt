@@ -5,21 +5,21 @@ use mathlib.Core.List.{List}
 use mathlib.Core.Path.{_≡_, refl}
 use Rattle.words.specs.Answer.{Answer, refuse, ok}
 use Rattle.state.specs.declared.record.Machine.{Machine}
-use Rattle.runs.specs.Step.{Event, stopped, moved, crossing, Done, execute}
-use Rattle.runs.specs.Run.{Ran, after, afterEvent, runFrom}
+use Rattle.runs.specs.Step.{Completion, stopped, proceeded, crossing, Done, execute}
+use Rattle.runs.specs.Run.{Ran, after, afterCompletion, runFrom}
 
 module _ (Kept : Machine → List ℕ → Type 0) (step : (m : Machine) (words : List ℕ) (d : Done) → execute m words ≡ ok d → Kept m words → Kept (d .machine) (d .words)) where
   abbrev KeptBy : Ran → Type 0
   KeptBy r = Kept (r .machine) (r .words)
 
   module _ (stretch : Bool) (k n : ℕ) where
-    kept-event : (m : Machine) (words : List ℕ) (e : Event) → Kept m words → KeptBy (runFrom stretch k (n + 1) m words)
-        → KeptBy (afterEvent stretch (runFrom stretch k (n + 1)) n m words e)
+    kept-event : (m : Machine) (words : List ℕ) (e : Completion) → Kept m words → KeptBy (runFrom stretch k (n + 1) m words)
+        → KeptBy (afterCompletion stretch (runFrom stretch k (n + 1)) n m words e)
     kept-event m words stopped h rest = h
-    kept-event m words moved h rest = rest
+    kept-event m words proceeded h rest = rest
     kept-event m words crossing h rest = by stretch rest
       where
-        by : (t : Bool) → KeptBy (runFrom t k (n + 1) m words) → KeptBy (afterEvent t (runFrom t k (n + 1)) n m words crossing)
+        by : (t : Bool) → KeptBy (runFrom t k (n + 1) m words) → KeptBy (afterCompletion t (runFrom t k (n + 1)) n m words crossing)
         by true rest = h
         by false rest = rest
 

@@ -6,29 +6,29 @@ use mathlib.Core.List.{List}
 use mathlib.Core.Path.{_≡_, refl, ap, _∙_}
 use Rattle.words.specs.Answer.{Answer, refuse, ok}
 use Rattle.state.specs.declared.record.Machine.{Machine}
-use Rattle.runs.specs.Step.{Event, stopped, moved, crossing, Done, execute}
-use Rattle.runs.specs.Run.{Ran, Ending, halted, spent, crossed, faulted, refused, after, afterEvent, runFrom}
-use Rattle.processor.specs.Steps.{onward}
+use Rattle.runs.specs.Step.{Completion, stopped, proceeded, crossing, Done, execute}
+use Rattle.runs.specs.Run.{Ran, Ending, halted, spent, crossed, faulted, refused, after, afterCompletion, runFrom}
+use Rattle.processor.specs.Steps.{afterStretch}
 
 module _ (k n : ℕ) where
   abbrev Parted : Machine → List ℕ → Type 0
-  Parted m words = runFrom false k (n + 1) m words ≡ onward (n + 1 + k) (runFrom true k (n + 1) m words)
+  Parted m words = runFrom false k (n + 1) m words ≡ afterStretch (n + 1 + k) (runFrom true k (n + 1) m words)
 
-  event-parted : (m : Machine) (words : List ℕ) (e : Event) → Parted m words
-      → afterEvent false (runFrom false k (n + 1)) n m words e ≡ onward (n + suc k) (afterEvent true (runFrom true k (n + 1)) n m words e)
-  unfolding onward
+  event-parted : (m : Machine) (words : List ℕ) (e : Completion) → Parted m words
+      → afterCompletion false (runFrom false k (n + 1)) n m words e ≡ afterStretch (n + suc k) (afterCompletion true (runFrom true k (n + 1)) n m words e)
+  unfolding afterStretch
   event-parted m words stopped h = refl
-  event-parted m words moved h = h ∙ ap (λ (l : ℕ). onward l (runFrom true k (n + 1) m words)) (omega arith)
+  event-parted m words proceeded h = h ∙ ap (λ (l : ℕ). afterStretch l (runFrom true k (n + 1) m words)) (omega arith)
   event-parted m words crossing h = ap (λ (l : ℕ). runFrom false l (n + 1) m words) (omega arith)
 
   parted : (m : Machine) (words : List ℕ) (e : Answer Done) → ((m : Machine) (words : List ℕ) → Parted m words)
-      → after false (runFrom false k (n + 1)) n m words e ≡ onward (n + suc k) (after true (runFrom true k (n + 1)) n m words e)
-  unfolding onward
+      → after false (runFrom false k (n + 1)) n m words e ≡ afterStretch (n + suc k) (after true (runFrom true k (n + 1)) n m words e)
+  unfolding afterStretch
   parted m words (refuse f) h = refl
   parted m words (ok d) h = event-parted (d .machine) (d .words) (d .event) (h (d .machine) (d .words))
 
-pub run-stretches : (k n : ℕ) (m : Machine) (words : List ℕ) → runFrom false k n m words ≡ onward (n + k) (runFrom true k n m words)
-unfolding runFrom onward
+pub run-stretches : (k n : ℕ) (m : Machine) (words : List ℕ) → runFrom false k n m words ≡ afterStretch (n + k) (runFrom true k n m words)
+unfolding runFrom afterStretch
 run-stretches zero n m words = refl
 run-stretches (suc k) n m words = parted k n m words (execute m words) (run-stretches k (n + 1))
 
@@ -56,13 +56,13 @@ module _ (stretch : Bool) (k n : ℕ) where
   abbrev CountedRun : ℕ → ℕ → Ran → Type 0
   CountedRun k n r = Counted k n (r .count) (r .ending)
 
-  counted-event : (m : Machine) (words : List ℕ) (e : Event) → CountedRun k (n + 1) (runFrom stretch k (n + 1) m words)
-      → CountedRun (suc k) n (afterEvent stretch (runFrom stretch k (n + 1)) n m words e)
+  counted-event : (m : Machine) (words : List ℕ) (e : Completion) → CountedRun k (n + 1) (runFrom stretch k (n + 1) m words)
+      → CountedRun (suc k) n (afterCompletion stretch (runFrom stretch k (n + 1)) n m words e)
   counted-event m words stopped h = ended (suc k) n (n + 1) halted refl (omega arith) (omega arith)
-  counted-event m words moved h = counted-later k n _ _ h
+  counted-event m words proceeded h = counted-later k n _ _ h
   counted-event m words crossing h = by stretch h
     where
-      by : (t : Bool) → CountedRun k (n + 1) (runFrom t k (n + 1) m words) → CountedRun (suc k) n (afterEvent t (runFrom t k (n + 1)) n m words crossing)
+      by : (t : Bool) → CountedRun k (n + 1) (runFrom t k (n + 1) m words) → CountedRun (suc k) n (afterCompletion t (runFrom t k (n + 1)) n m words crossing)
       by true h = ended (suc k) n (n + 1) crossed refl (omega arith) (omega arith)
       by false h = counted-later k n _ _ h
 

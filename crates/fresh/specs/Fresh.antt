@@ -2,13 +2,8 @@
 use mathlib.Core.Bool.{false}
 use lib.ListN.{getD, replicate, set}
 use Rattle.state.specs.declared.record.Layout.{Layout}
-use Rattle.state.specs.declared.record.Frame.{Frame}
 use Rattle.state.specs.declared.record.Machine.{Machine}
-use Rattle.state.specs.Record.{noPointer, noCapability}
-
--- a frame that is not in use
-abbrev pub zeroFrame : Frame
-zeroFrame = record { capabilities = replicate 9 noCapability; s = noPointer; back = noPointer; count = 0; domain = 0 }
+use Rattle.state.specs.Record.{noPointer, freeFrame}
 
 -- it is at the start, with register b (pointer 2) at the start domain's stack, and the rest zero
 unfoldable pub freshOf : Layout → Machine
@@ -17,6 +12,6 @@ freshOf l =
       layout = l;
       registers = record { a = 0; word = l .start .word; segment = l .start .segment; domain = l .start .domain };
       pointers = set (replicate 8 noPointer) 2 (record { word = 0; segment = getD (l .stacks) (l .start .domain) 0; tag = false });
-      frames = replicate 8 zeroFrame;
+      frames = replicate 8 freeFrame;
       depth = 0;
     }

@@ -1,9 +1,8 @@
 // Fresh machines.
 ghost use mathlib.Core.Path.{_≡_};
 ghost use lib.ListN.{getD};
-ghost use Rattle.fresh.specs.Fresh.{zeroFrame, freshOf};
-use state::record::Capability;
-use state::record::Frame;
+ghost use Rattle.fresh.specs.Fresh.{freshOf};
+use state::frames::free_frame;
 use state::record::Layout;
 use state::record::Machine;
 use state::record::Registers;
@@ -15,33 +14,6 @@ fn stack_of(stacks: [u8; 8], domain: u8) -> u8
 {
     let d = domain as usize;
     if d < 8 { stacks[d] } else { 0 }
-}
-
-// A frame that is not in use.
-pub fn zero_frame() -> Frame
-    ensures { λ r. ⌜ r ≡ zeroFrame ⌝ }
-{
-    let c = Capability {
-        word: 0,
-        length: 0,
-        segment: 0,
-        source: 0,
-        read: false,
-        write: false,
-    };
-    let p = Pointer {
-        word: 0,
-        segment: 0,
-        tag: false,
-    };
-    let capabilities = [c; 9];
-    Frame {
-        capabilities,
-        s: p,
-        back: p,
-        count: 0,
-        domain: 0,
-    }
 }
 
 // The machine of a layout before its first instruction.
@@ -62,7 +34,7 @@ pub fn fresh(layout: Layout) -> Machine
         segment: stack,
         tag: false,
     };
-    let frame = zero_frame();
+    let frame = free_frame();
     let frames = [frame; 8];
     let registers = Registers {
         a: 0,

@@ -8,7 +8,7 @@ use Rattle.words.specs.Answer.{Answer, refuse}
 use Rattle.snapshot_reader.specs.Read.{recordOf}
 use Rattle.snapshot_writer.specs.Write.{writtenTo}
 use Rattle.image_format.specs.Image.{Image}
-use Rattle.image_reader.specs.Reader.{readOf, machineAfter, memoryAfter}
+use Rattle.image_reader.specs.Reader.{readImage, machineAfter, memoryAfter}
 use Rattle.image_reader.specs.declared.ReadAnswer.{ReadAnswer}
 use Rattle.host.specs.Images.{imageRead, readNumber, recordAfterRead, wordsAfterRead}
 
@@ -29,11 +29,11 @@ module _ (image bytes words : List ℕ) where
   unfolding readNumber wordsAfterRead machineAfter memoryAfter
   without-room h = (ap (λ (a : Answer Image). machineAfter (recordOf bytes) a .number) (refused h), (kept h, ap (memoryAfter words) (refused h)))
 
-  read-is : 919 ≤ length bytes → readOf image words ≡ imageRead image bytes words
+  read-is : 919 ≤ length bytes → readImage image words ≡ imageRead image bytes words
   read-is h = simp (le-leb _ _ h)
 
-  pub with-room : 919 ≤ length bytes → (a : ReadAnswer) (after memory : List ℕ) → a ≡ machineAfter (recordOf bytes) (readOf image words)
-      → after ≡ writtenTo bytes (a .machine) → memory ≡ memoryAfter words (readOf image words) → Given (a .number) after memory
+  pub with-room : 919 ≤ length bytes → (a : ReadAnswer) (after memory : List ℕ) → a ≡ machineAfter (recordOf bytes) (readImage image words)
+      → after ≡ writtenTo bytes (a .machine) → memory ≡ memoryAfter words (readImage image words) → Given (a .number) after memory
   unfolding readNumber recordAfterRead wordsAfterRead
   with-room h a after memory answer wrote left =
       let e : a ≡ machineAfter (recordOf bytes) (imageRead image bytes words) = answer ∙ ap (machineAfter (recordOf bytes)) (read-is h) in (

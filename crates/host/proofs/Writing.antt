@@ -16,7 +16,7 @@ use Rattle.snapshot_writer.specs.Tabulate.{tabulate}
 use Rattle.snapshot_reader.specs.Read.{recordOf}
 use Rattle.image_format.specs.Image.{imageFrom, bytesOf}
 use Rattle.image_reader.specs.Reader.{mapped}
-use Rattle.image_writer.specs.Writer.{writeOf, writtenOf}
+use Rattle.image_writer.specs.Writer.{writeImage, writeResult}
 use Rattle.image_format.proofs.Sizes.{image-size}
 use Rattle.image_writer.specs.declared.Written.{Written}
 use Rattle.host.specs.Check.{codeOf}
@@ -26,23 +26,23 @@ use Rattle.host.specs.Images.{imageWritten, writeCode}
 abbrev tests : Bool → Bool → Bool → List ℕ → Answer (List ℕ)
 tests sound enough room bytes = require sound 9 >> require enough 7 >> require room 8 >> ok bytes
 
-accepted : (s e r : Bool) (bytes : List ℕ) → writtenOf (tests s e r bytes) .number ≡ 0 → codeOf (mapped length (tests s e r bytes)) ≡ writtenOf (tests s e r bytes) .length
-unfolding writtenOf
+accepted : (s e r : Bool) (bytes : List ℕ) → writeResult (tests s e r bytes) .number ≡ 0 → codeOf (mapped length (tests s e r bytes)) ≡ writeResult (tests s e r bytes) .length
+unfolding writeResult
 accepted true true true bytes h = refl
 accepted true true false bytes h = absurd (omega arith)
 accepted true false r bytes h = absurd (omega arith)
 accepted false e r bytes h = absurd (omega arith)
 
-refused : (s e r : Bool) (bytes : List ℕ) → (writtenOf (tests s e r bytes) .number ≡ 0 → ⊥)
-    → codeOf (mapped length (tests s e r bytes)) ≡ 0x10000 + writtenOf (tests s e r bytes) .number
-unfolding writtenOf
+refused : (s e r : Bool) (bytes : List ℕ) → (writeResult (tests s e r bytes) .number ≡ 0 → ⊥)
+    → codeOf (mapped length (tests s e r bytes)) ≡ 0x10000 + writeResult (tests s e r bytes) .number
+unfolding writeResult
 refused true true true bytes h = absurd (h refl)
 refused true true false bytes h = refl
 refused true false r bytes h = refl
 refused false e r bytes h = refl
 
-short : (s e r : Bool) (bytes : List ℕ) → (s ≡ true → e ≡ true → length bytes ≤ 33080) → writtenOf (tests s e r bytes) .length ≤ 33080
-unfolding writtenOf
+short : (s e r : Bool) (bytes : List ℕ) → (s ≡ true → e ≡ true → length bytes ≤ 33080) → writeResult (tests s e r bytes) .length ≤ 33080
+unfolding writeResult
 short true true true bytes h = h refl refl
 short true true false bytes h = omega arith
 short true false r bytes h = omega arith
@@ -70,19 +70,19 @@ module _ (bytes words output : List ℕ) where
   abbrev enough : Bool
   enough = leb 8192 (length words)
 
-  module _ (w : Written) (is : w ≡ writtenOf (imageWritten bytes words output)) where
-    numbers : w .number ≡ writtenOf (imageWritten bytes words output) .number
+  module _ (w : Written) (is : w ≡ writeResult (imageWritten bytes words output)) where
+    numbers : w .number ≡ writeResult (imageWritten bytes words output) .number
     numbers = ap (λ (x : Written). x .number) is
 
     pub code-accepted : w .number ≡ 0 → w .length ≡ writeCode bytes words output
-    unfolding writeOf writeCode
+    unfolding writeImage writeCode
     code-accepted h = ap (λ (x : Written). x .length) is ∙ sym (accepted (soundTest (recordOf bytes)) enough room whole (sym numbers ∙ h))
 
     pub code-refused : (w .number ≡ 0 → ⊥) → 0x10000 + w .number ≡ writeCode bytes words output
-    unfolding writeOf writeCode
+    unfolding writeImage writeCode
     code-refused h = ap (λ (n : ℕ). 0x10000 + n) numbers ∙ sym (refused (soundTest (recordOf bytes)) enough room whole (λ z. h (numbers ∙ z)))
 
     pub written-short : w .length ≤ 33080
-    unfolding writeOf
+    unfolding writeImage
     written-short =
         subst (λ (x : Written). x .length ≤ 33080) (sym is) (short (soundTest (recordOf bytes)) enough room whole (sound-short (recordOf bytes) words (rights-wide bytes)))

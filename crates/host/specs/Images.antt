@@ -8,14 +8,14 @@ use Rattle.words.specs.Numbers.{outputTooShort}
 use Rattle.snapshot_reader.specs.Read.{recordOf}
 use Rattle.snapshot_writer.specs.Write.{writtenTo}
 use Rattle.image_format.specs.Image.{Image}
-use Rattle.image_reader.specs.Reader.{readOf, machineAfter, memoryAfter, mapped}
-use Rattle.image_writer.specs.Writer.{writeOf, outputAfter}
+use Rattle.image_reader.specs.Reader.{readImage, machineAfter, memoryAfter, mapped}
+use Rattle.image_writer.specs.Writer.{writeImage, outputAfter}
 use Rattle.image_reader.specs.declared.ReadAnswer.{ReadAnswer}
 use Rattle.host.specs.Check.{codeOf}
 
 -- the image, or the refusal; 8, where a record has no room, comes first
 abbrev pub imageRead : List ℕ → List ℕ → List ℕ → Answer Image
-imageRead image bytes words = require (leb 919 (length bytes)) outputTooShort >> readOf image words
+imageRead image bytes words = require (leb 919 (length bytes)) outputTooShort >> readImage image words
 
 -- the machine and the number that come of the record that bytes hold
 abbrev pub readAnswer : List ℕ → List ℕ → List ℕ → ReadAnswer
@@ -33,7 +33,7 @@ wordsAfterRead image bytes words = memoryAfter words (imageRead image bytes word
 
 -- the image of the record that bytes hold, or the refusal
 abbrev pub imageWritten : List ℕ → List ℕ → List ℕ → Answer (List ℕ)
-imageWritten bytes words output = writeOf (recordOf bytes) words output
+imageWritten bytes words output = writeImage (recordOf bytes) words output
 
 -- its length, or 0x10000 plus the refusal's number
 unfoldable pub writeCode : List ℕ → List ℕ → List ℕ → ℕ

@@ -20,8 +20,8 @@ mapped f (refuse n) = refuse n
 mapped f (ok a) = ok (f a)
 
 -- the image, or the refusal; 7 comes before all of the image's
-unfoldable pub readOf : List ℕ → List ℕ → Answer Image
-readOf bytes words = require (leb 8192 (length words)) memoryTooShort >> imageOf bytes
+unfoldable pub readImage : List ℕ → List ℕ → Answer Image
+readImage bytes words = require (leb 8192 (length words)) memoryTooShort >> imageOf bytes
 
 -- the machine and the number that come of it: a fresh machine, or the one that was there
 unfoldable pub machineAfter : Machine → Answer Image → ReadAnswer

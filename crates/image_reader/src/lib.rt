@@ -8,7 +8,7 @@ mod segment;
 mod store;
 
 ghost use mathlib.Core.Path.{_≡_};
-ghost use Rattle.image_reader.specs.Reader.{readOf, machineAfter, memoryAfter};
+ghost use Rattle.image_reader.specs.Reader.{readImage, machineAfter, memoryAfter};
 use crate::chunk::Verdict;
 use crate::judge::judge;
 use crate::store::store;
@@ -23,8 +23,8 @@ pub struct ReadAnswer {
 
 // Reads an image into a machine and its memory. Refused, both are as they were.
 pub fn read(image: &[u8], m: Machine, words: &mut [u32]) -> ReadAnswer
-    ensures { λ r. ⌜ r ≡ machineAfter m (readOf (now (image .entry)) (now (words .entry))) ⌝ }
-    ensures { λ r. ⌜ now (words .exit) ≡ memoryAfter (now (words .entry)) (readOf (now (image .entry)) (now (words .entry))) ⌝ }
+    ensures { λ r. ⌜ r ≡ machineAfter m (readImage (now (image .entry)) (now (words .entry))) ⌝ }
+    ensures { λ r. ⌜ now (words .exit) ≡ memoryAfter (now (words .entry)) (readImage (now (image .entry)) (now (words .entry))) ⌝ }
 {
     if words.len() < 8192 {
         return ReadAnswer {

@@ -11,17 +11,17 @@ use Rattle.image_format.specs.Image.{imageFrom, bytesOf}
 use Rattle.image_writer.specs.declared.Written.{Written}
 
 -- the bytes of a machine's image, or the refusal
-unfoldable pub writeOf : Machine → List ℕ → List ℕ → Answer (List ℕ)
-writeOf m words output =
+unfoldable pub writeImage : Machine → List ℕ → List ℕ → Answer (List ℕ)
+writeImage m words output =
     require (soundTest m) notSound >>
     require (leb 8192 (length words)) memoryTooShort >>
     require (leb (length (bytesOf (imageFrom (m .layout) words))) (length output)) outputTooShort >>
     ok (bytesOf (imageFrom (m .layout) words))
 
 -- the number and the length that come of it
-unfoldable pub writtenOf : Answer (List ℕ) → Written
-writtenOf (refuse n) = record { number = n; length = 0 }
-writtenOf (ok bytes) = record { number = 0; length = length bytes }
+unfoldable pub writeResult : Answer (List ℕ) → Written
+writeResult (refuse n) = record { number = n; length = 0 }
+writeResult (ok bytes) = record { number = 0; length = length bytes }
 
 -- the output that comes of it: the bytes from its start, or the bytes that were there
 unfoldable pub outputAfter : List ℕ → Answer (List ℕ) → List ℕ

@@ -9,7 +9,7 @@ ghost use Prim.Native.Nat.{_≤_};
 ghost use lib.ListN.{length, drop};
 ghost use Rattle.layout_soundness.specs.SoundLayout.{layoutTest};
 ghost use Rattle.image_format.specs.Image.{imageFrom, bytesOf};
-ghost use Rattle.image_writer.specs.Writer.{writeOf, writtenOf, outputAfter};
+ghost use Rattle.image_writer.specs.Writer.{writeImage, writeResult, outputAfter};
 use crate::chunk_output::put_domains;
 use crate::chunk_output::put_head;
 use crate::chunk_output::put_segments;
@@ -60,8 +60,8 @@ fn put_image(output: &mut [u8], layout: Layout, words: &[u32])
 
 // Writes the image of a machine and its memory. Refused, the output is as it was.
 pub fn write(m: Machine, words: &[u32], output: &mut [u8]) -> Written
-    ensures { λ r. ⌜ r ≡ writtenOf (writeOf m (now (words .entry)) (now (output .entry))) ⌝ }
-    ensures { λ r. ⌜ now (output .exit) ≡ outputAfter (now (output .entry)) (writeOf m (now (words .entry)) (now (output .entry))) ⌝ }
+    ensures { λ r. ⌜ r ≡ writeResult (writeImage m (now (words .entry)) (now (output .entry))) ⌝ }
+    ensures { λ r. ⌜ now (output .exit) ≡ outputAfter (now (output .entry)) (writeImage m (now (words .entry)) (now (output .entry))) ⌝ }
 {
     if !sound(m) {
         return Written {

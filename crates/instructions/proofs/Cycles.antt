@@ -14,7 +14,7 @@ use Rattle.instructions.specs.Plan.{Plan, move, enter}
 use Rattle.transfers.specs.Transfer.{jumpCheck, callWay}
 use Rattle.instructions.specs.Instruction.{jumpOf, callOf, loadOf, next, operateOf}
 use Rattle.pointer_registers.specs.Stack.{stackOf, withBase}
-use Rattle.instructions.specs.Cycle.{Progress, moved, entering, registersAt, settled, settledAnswer, settledWords, loaded, called}
+use Rattle.instructions.specs.Cycle.{Progress, moved, entering, movedRegisters, settled, settledAnswer, settledWords, loaded, called}
 use Rattle.memory.proofs.Answers.{accept-then}
 
 module _ (lengths gates rights stacks bases words : List ℕ) (depth : ℕ) (frame : Frame) (r : Registers) (pointers : List Pointer) where
@@ -29,10 +29,10 @@ module _ (lengths gates rights stacks bases words : List ℕ) (depth : ℕ) (fra
     pub there : to plan ≡ turned
     pub words-stay : left plan ≡ words
 
-  accepted : (v : ℕ) (a s w : ℕ) (ps : List Pointer) → Settles (accept v (move a s w ps)) (accept v (moved (registersAt r a s w) ps))
+  accepted : (v : ℕ) (a s w : ℕ) (ps : List Pointer) → Settles (accept v (move a s w ps)) (accept v (moved (movedRegisters r a s w) ps))
   accepted v a s w ps = by (eqb v 0)
     where
-      by : (t : Bool) → Settles (if t then ok (move a s w ps) else refuse v) (if t then ok (moved (registersAt r a s w) ps) else refuse v)
+      by : (t : Bool) → Settles (if t then ok (move a s w ps) else refuse v) (if t then ok (moved (movedRegisters r a s w) ps) else refuse v)
       by true = record { there = refl; words-stay = refl }
       by false = record { there = refl; words-stay = refl }
 
@@ -44,7 +44,7 @@ module _ (lengths gates rights stacks bases words : List ℕ) (depth : ℕ) (fra
       by (refuse n) = record { there = refl; words-stay = refl }
       by (ok w) = record { there = refl; words-stay = refl }
 
-  pub jump-settles : (p : Pointer) → Settles (jumpOf lengths gates rights stacks depth r pointers p) (accept (jumpCheck lengths rights (r .domain) p) (moved (registersAt r (r .a) (p .segment) (p .word)) pointers))
+  pub jump-settles : (p : Pointer) → Settles (jumpOf lengths gates rights stacks depth r pointers p) (accept (jumpCheck lengths rights (r .domain) p) (moved (movedRegisters r (r .a) (p .segment) (p .word)) pointers))
   unfolding jumpOf
   jump-settles p = accepted (jumpCheck lengths rights (r .domain) p) (r .a) (p .segment) (p .word) pointers
 

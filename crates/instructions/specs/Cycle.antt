@@ -41,15 +41,15 @@ abbrev pub Cycles : Cycle → (List Pointer → Answer Progress) → Type 0
 Cycles t f = (pointers : List Pointer) → cycleAnswer pointers t ≡ f pointers
 
 -- the registers with this A at this segment and word
-abbrev pub registersAt : Registers → ℕ → ℕ → ℕ → Registers
-registersAt r a segment word = record { a = a; word = word; segment = segment; domain = r .domain }
+abbrev pub movedRegisters : Registers → ℕ → ℕ → ℕ → Registers
+movedRegisters r a segment word = record { a = a; word = word; segment = segment; domain = r .domain }
 
 module _ (lengths rights bases words : List ℕ) (depth : ℕ) (frame : Frame) (r : Registers) (pointers : List Pointer) where
   -- a plan carried out, its store judged
   abbrev pub settled : Plan → Answer Progress
   settled halt = ok ended
-  settled (move a segment word next) = ok (moved (registersAt r a segment word) next)
-  settled (store p v) = accept (verdictOf lengths rights (r .domain) depth frame access.Write p) (moved (registersAt r (r .a) (r .segment) (r .word + 1)) pointers)
+  settled (move a segment word next) = ok (moved (movedRegisters r a segment word) next)
+  settled (store p v) = accept (verdictOf lengths rights (r .domain) depth frame access.Write p) (moved (movedRegisters r (r .a) (r .segment) (r .word + 1)) pointers)
   settled (enter p) = ok (entering p)
   settled (leave p) = ok (leaving p)
 
@@ -67,12 +67,12 @@ module _ (lengths rights bases words : List ℕ) (depth : ℕ) (frame : Frame) (
 
 -- LOAD, ADD or SUB with the word read
 abbrev pub loaded : Registers → List Pointer → ℕ → Answer ℕ → Answer Progress
-loaded r pointers opcode answer = answer >>= (λ w. ok (moved (registersAt r (operateOf opcode (r .a) w) (r .segment) (r .word + 1)) pointers))
+loaded r pointers opcode answer = answer >>= (λ w. ok (moved (movedRegisters r (operateOf opcode (r .a) w) (r .segment) (r .word + 1)) pointers))
 
 -- a call whose checks are made
 abbrev pub called : Registers → List Pointer → ℕ → Pointer → Answer Bool → Answer Progress
 called r pointers stack p way =
-    way >>= (λ inside. if inside then ok (moved (registersAt r (r .a) (p .segment) (p .word)) (withBase pointers stack)) else ok (entering p))
+    way >>= (λ inside. if inside then ok (moved (movedRegisters r (r .a) (p .segment) (p .word)) (withBase pointers stack)) else ok (entering p))
 
 -- the instruction at the location, and the words after it
 module _ (lengths gates rights stacks bases words : List ℕ) (depth : ℕ) (frame : Frame) (r : Registers) (pointers : List Pointer) where

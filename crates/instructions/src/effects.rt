@@ -6,7 +6,7 @@ ghost use Rattle.instructions.specs.Plan.{store};
 ghost use Rattle.transfers.specs.Transfer.{callWay};
 ghost use Rattle.instructions.specs.Instruction.{operateOf};
 ghost use Rattle.pointer_registers.specs.Stack.{stackOf};
-ghost use Rattle.instructions.specs.Cycle.{Cycles, loaded, called, settled, registersAt};
+ghost use Rattle.instructions.specs.Cycle.{Cycles, loaded, called, settled, movedRegisters};
 use crate::cycle::Cycle;
 use crate::cycle::Event;
 use memory::WordAnswer;
@@ -24,7 +24,7 @@ use words::pointer::Pointer;
 // On to the next word with another A.
 pub fn onward(r: Registers, a: u32, event: Event) -> Cycle
     requires { ⌜ r .word < 65535 ⌝ }
-    ensures { λ t. ⌜ t ≡ record { registers = registersAt r a (r .segment) (r .word + 1); event = event } ⌝ }
+    ensures { λ t. ⌜ t ≡ record { registers = movedRegisters r a (r .segment) (r .word + 1); event = event } ⌝ }
 {
     let word = r.word + 1;
     let registers = Registers {
@@ -38,7 +38,7 @@ pub fn onward(r: Registers, a: u32, event: Event) -> Cycle
 
 // On to a place.
 pub fn go_to(r: Registers, p: Pointer, event: Event) -> Cycle
-    ensures { λ t. ⌜ t ≡ record { registers = registersAt r (r .a) (p .segment) (p .word); event = event } ⌝ }
+    ensures { λ t. ⌜ t ≡ record { registers = movedRegisters r (r .a) (p .segment) (p .word); event = event } ⌝ }
 {
     let registers = Registers {
         a: r.a,

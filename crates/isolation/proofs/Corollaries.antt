@@ -7,8 +7,8 @@ use lib.ListN.{length, set, length-set}
 use Rattle.words.specs.Answer.{Answer, refuse, ok}
 use Rattle.state.specs.declared.record.Machine.{Machine}
 use Rattle.state.specs.Bases.{wordsIn}
-use Rattle.runs.specs.Step.{Event, stopped, moved, crossing, Done, execute}
-use Rattle.runs.specs.Run.{crossed, after, afterEvent, runFrom}
+use Rattle.runs.specs.Step.{Completion, stopped, proceeded, crossing, Done, execute}
+use Rattle.runs.specs.Run.{crossed, after, afterCompletion, runFrom}
 use Rattle.processor.specs.Calls.{runOf, stretchOf}
 use Rattle.isolation.specs.Visible.{maySee, couldWrite, existing, place}
 use Rattle.isolation.specs.Isolation.{Agree, Unchanged, Isolated}
@@ -25,10 +25,10 @@ unfolding runFrom
 run-is-stretch zero n m w h = refl
 run-is-stretch (suc k) n m w h = by (execute m w) (run-is-stretch k (n + 1)) h
   where
-    event : (e : Event) (m : Machine) (w : List ℕ) → Same k (n + 1) m w → (afterEvent true (runFrom true k (n + 1)) n m w e .ending ≡ crossed → ⊥)
-        → afterEvent false (runFrom false k (n + 1)) n m w e ≡ afterEvent true (runFrom true k (n + 1)) n m w e
+    event : (e : Completion) (m : Machine) (w : List ℕ) → Same k (n + 1) m w → (afterCompletion true (runFrom true k (n + 1)) n m w e .ending ≡ crossed → ⊥)
+        → afterCompletion false (runFrom false k (n + 1)) n m w e ≡ afterCompletion true (runFrom true k (n + 1)) n m w e
     event stopped m w rest h = refl
-    event moved m w rest h = rest h
+    event proceeded m w rest h = rest h
     event crossing m w rest h = absurd (h refl)
 
     by : (d : Answer Done) → ((m : Machine) (w : List ℕ) → Same k (n + 1) m w) → (after true (runFrom true k (n + 1)) n m w d .ending ≡ crossed → ⊥)

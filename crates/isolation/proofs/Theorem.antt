@@ -13,7 +13,7 @@ use Rattle.state.specs.Bases.{wordsIn}
 use Rattle.references.specs.declared.flag.Access.the-variants as access
 use Rattle.references.specs.Check.{check}
 use Rattle.memory.specs.Reader.{Reader, readWord, fetch}
-use Rattle.runs.specs.Step.{Act, stop, proceed, put, cross, Done, done, moved, movedTo, decide, commit}
+use Rattle.runs.specs.Step.{Act, stop, proceed, put, cross, Done, done, proceeded, movedTo, decide, commit}
 use Rattle.runs.specs.Run.{Ran, ran, Ending, halted, spent, crossed, faulted, after}
 use Rattle.processor.specs.Calls.{stretchOf}
 use Rattle.isolation.specs.Isolation.{Agree, Isolated}
@@ -47,7 +47,7 @@ module _ (decide : Machine → Answer ℕ → Reader → Answer Act) where
 
     module _ (w v : List ℕ) (r : Ready m w v) where
       stores : (a s o : ℕ) (ps : List Pointer) (p : Pointer) (z : ℕ) (x : Answer ℕ) → check m access.Write p ≡ x
-          → Isolated m w v (next m w (x >>= (λ i. ok (done (movedTo m a s o ps) (set w i z) moved)))) (next m v (x >>= (λ i. ok (done (movedTo m a s o ps) (set v i z) moved))))
+          → Isolated m w v (next m w (x >>= (λ i. ok (done (movedTo m a s o ps) (set w i z) proceeded)))) (next m v (x >>= (λ i. ok (done (movedTo m a s o ps) (set v i z) proceeded))))
       unfolding next
       stores a s o ps p z (refuse f) e = ends m w v m c (faulted f) (r .agree)
       stores a s o ps p z (ok i) e =

@@ -12,7 +12,7 @@ use Rattle.words.specs.PointerWord.{pointerOf}
 use Rattle.words.specs.InstructionWord.{instructionOf}
 use Rattle.words.specs.ModeWord.{modeOf}
 use Rattle.state.specs.declared.record.Machine.{Machine}
-use Rattle.state.specs.Record.{noPointer, noCapability}
+use Rattle.state.specs.Record.{noPointer, noCapability, freeFrame}
 use Rattle.state.specs.Bases.{baseOf, basesOf, wordsIn}
 use Rattle.references.specs.declared.flag.Flag.the-variants as flag
 use Rattle.references.specs.declared.flag.Access.the-variants as access
@@ -27,7 +27,7 @@ use Rattle.addressing.specs.Effective.{displacedBy, throughOf, effectiveOf}
 use Rattle.transfers.specs.Transfer.{jumpCheck, callWay}
 use Rattle.instructions.specs.Instruction.{loadOf, branchOf, callOf, isLoad, isStore, valueOf, takenOf, effectOf, executeOf, planOf, jumpOf, returnOf}
 use Rattle.arguments.specs.ArgumentList.{listWord, listPointer, sourceOf, capabilityOf, argumentOf, argumentsFrom, frameAfter, frameOf}
-use Rattle.crossings.specs.Crossing.{freeFrame, entered, enterOf}
+use Rattle.crossings.specs.Crossing.{entered, enterOf}
 use Rattle.runs.specs.Step.{decide, commit, execute}
 use Rattle.runs.specs.Run.{ran, crossed, runFrom}
 use Rattle.processor.specs.Calls.{stretchOf}

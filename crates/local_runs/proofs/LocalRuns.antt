@@ -15,7 +15,7 @@ use Rattle.instructions.specs.declared.cycle.Event.the-variants as event
 use Rattle.memory.specs.Reader.{stored, writtenOf}
 use Rattle.instructions.specs.Plan.{Plan, halt, move, store, enter, leave}
 use Rattle.instructions.specs.Cycle.{Progress, moved, eventAnswer, settledWords, planned, cycleOf, cycleWords}
-use Rattle.local_runs.specs.LocalRun.{Paused, paused, onward, localFrom}
+use Rattle.local_runs.specs.LocalRun.{Paused, paused, afterCycle, localFrom}
 
 -- an event at which a local run pauses
 abbrev pub Stops : Event → Type 0
@@ -76,7 +76,7 @@ module _ (lengths gates rights stacks bases : List ℕ) (depth : ℕ) (frame : F
     spent h = l .rest ∙ ap (λ (k : ℕ). localFrom lengths gates rights stacks bases depth frame k n r ps words) (let z : limit - n ≡ 0 = omega arith in z)
 
     module _ (less : n < limit) where
-      next : whole ≡ onward (localFrom lengths gates rights stacks bases depth frame (limit - (n + 1)) (n + 1)) n r ps after cycle
+      next : whole ≡ afterCycle (localFrom lengths gates rights stacks bases depth frame (limit - (n + 1)) (n + 1)) n r ps after cycle
       unfolding localFrom
       next = l .rest ∙ ap (λ (k : ℕ). localFrom lengths gates rights stacks bases depth frame k n r ps words) (let z : limit - n ≡ suc (limit - (n + 1)) = omega arith in z)
 
@@ -90,10 +90,10 @@ module _ (lengths gates rights stacks bases : List ℕ) (depth : ℕ) (frame : F
 
       -- an instruction that does not
       pub pauses : (s : Registers) (e : Event) → eventAnswer s ps e ≡ cycle → Stops e → whole ≡ paused r ps after n e
-      pauses s e h stops = next ∙ ap (onward _ n r ps after) (sym h) ∙ by e stops
+      pauses s e h stops = next ∙ ap (afterCycle _ n r ps after) (sym h) ∙ by e stops
         where
           by : (x : Event) → Stops x
-              → onward (localFrom lengths gates rights stacks bases depth frame (limit - (n + 1)) (n + 1)) n r ps after (eventAnswer s ps x) ≡ paused r ps after n x
+              → afterCycle (localFrom lengths gates rights stacks bases depth frame (limit - (n + 1)) (n + 1)) n r ps after (eventAnswer s ps x) ≡ paused r ps after n x
           by event.Moved o = absurd o
           by (event.Pointed i p) o = absurd o
           by event.Halted o = refl

@@ -20,17 +20,17 @@ abbrev pub paused : Registers → List Pointer → List ℕ → ℕ → Event �
 paused r pointers words n e = record { pause = record { pointers = pointers; registers = r; event = e; count = n }; words = words }
 
 -- after an instruction: go says how it goes on
-abbrev pub onward : (Registers → List Pointer → List ℕ → Paused) → ℕ → Registers → List Pointer → List ℕ → Answer Progress → Paused
-onward go n r pointers next (refuse f) = paused r pointers next n (event.Faulted f)
-onward go n r pointers next (ok ended) = paused r pointers next n event.Halted
-onward go n r pointers next (ok (moved s ps)) = go s ps next
-onward go n r pointers next (ok (entering p)) = paused r pointers next n (event.Entering p)
-onward go n r pointers next (ok (leaving p)) = paused r pointers next n (event.Leaving p)
+abbrev pub afterCycle : (Registers → List Pointer → List ℕ → Paused) → ℕ → Registers → List Pointer → List ℕ → Answer Progress → Paused
+afterCycle go n r pointers next (refuse f) = paused r pointers next n (event.Faulted f)
+afterCycle go n r pointers next (ok ended) = paused r pointers next n event.Halted
+afterCycle go n r pointers next (ok (moved s ps)) = go s ps next
+afterCycle go n r pointers next (ok (entering p)) = paused r pointers next n (event.Entering p)
+afterCycle go n r pointers next (ok (leaving p)) = paused r pointers next n (event.Leaving p)
 
 -- at most k instructions more, n completed so far
 unfoldable pub localFrom : List ℕ → List ℕ → List ℕ → List ℕ → List ℕ → ℕ → Frame → ℕ → ℕ → Registers → List Pointer → List ℕ → Paused
 localFrom lengths gates rights stacks bases depth frame zero n r pointers words = paused r pointers words n event.Moved
 localFrom lengths gates rights stacks bases depth frame (suc k) n r pointers words =
-    onward (localFrom lengths gates rights stacks bases depth frame k (n + 1)) n r pointers
+    afterCycle (localFrom lengths gates rights stacks bases depth frame k (n + 1)) n r pointers
     (cycleWords lengths gates rights stacks bases words depth frame r pointers)
     (cycleOf lengths gates rights stacks bases words depth frame r pointers)

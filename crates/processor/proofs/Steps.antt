@@ -6,10 +6,10 @@ use mathlib.Core.Path.{_≡_, refl, sym, ap, _∙_}
 use lib.Dec.{eqb}
 use Rattle.words.specs.Answer.{Answer, refuse, ok, if_then_else_}
 use Rattle.state.specs.declared.record.Machine.{Machine}
-use Rattle.runs.specs.Step.{Event, stopped, moved, crossing, Done, execute}
-use Rattle.runs.specs.Run.{Ran, ran, halted, spent, faulted, refused, after, afterEvent, runFrom, judged, calledOf}
+use Rattle.runs.specs.Step.{Completion, stopped, proceeded, crossing, Done, execute}
+use Rattle.runs.specs.Run.{Ran, ran, halted, spent, faulted, refused, after, afterCompletion, runFrom, judged, calledOf}
 use Rattle.processor.specs.Calls.{runOf, runCall, stepped, stepCall}
-use Rattle.processor.specs.Steps.{advance, advances, steps, answer}
+use Rattle.processor.specs.Steps.{advance, advances, steps, asStep}
 
 -- the first of the steps is made first
 first-step : (n : ℕ) (r : Ran) → advances (suc n) r ≡ advances n (advance r)
@@ -36,10 +36,10 @@ module _ (n c : ℕ) where
   abbrev more : Machine → List ℕ → Ran
   more m words = advances n (ran m words (c + 1) spent)
 
-  event-on : (m : Machine) (words : List ℕ) (e : Event)
-      → advances n (afterEvent false (λ m words. ran m words (c + 1) spent) c m words e) ≡ afterEvent false more c m words e
+  event-on : (m : Machine) (words : List ℕ) (e : Completion)
+      → advances n (afterCompletion false (λ m words. ran m words (c + 1) spent) c m words e) ≡ afterCompletion false more c m words e
   event-on m words stopped = halted-stays n m words (c + 1)
-  event-on m words moved = refl
+  event-on m words proceeded = refl
   event-on m words crossing = refl
 
   step-on : (m : Machine) (words : List ℕ) (e : Answer Done) → advances n (one m words e) ≡ after false more c m words e
@@ -59,26 +59,26 @@ run-steps n m words = steps-from n 0 m words
 
 -- a step is a run of limit 1
 module _ (m : Machine) (words : List ℕ) where
-  event-one : (n : Machine) (w : List ℕ) (e : Event) → answer (afterEvent false (runFrom false 0 1) 0 n w e) ≡ stepped m words (ok (record { machine = n; words = w; event = e }))
+  event-one : (n : Machine) (w : List ℕ) (e : Completion) → asStep (afterCompletion false (runFrom false 0 1) 0 n w e) ≡ stepped m words (ok (record { machine = n; words = w; event = e }))
   unfolding runFrom
   event-one n w stopped = refl
-  event-one n w moved = refl
+  event-one n w proceeded = refl
   event-one n w crossing = refl
 
-  done-one : (e : Answer Done) → answer (after false (runFrom false 0 1) 0 m words e) ≡ stepped m words e
+  done-one : (e : Answer Done) → asStep (after false (runFrom false 0 1) 0 m words e) ≡ stepped m words e
   done-one (refuse f) = refl
   done-one (ok d) = event-one (d .machine) (d .words) (d .event)
 
-  pub run-one : answer (runOf 1 m words) ≡ stepped m words (execute m words)
+  pub run-one : asStep (runOf 1 m words) ≡ stepped m words (execute m words)
   unfolding runFrom
   run-one = done-one (execute m words)
 
   -- and so are the calls
-  pub call-one : answer (runCall 1 m words) ≡ stepCall m words
+  pub call-one : asStep (runCall 1 m words) ≡ stepCall m words
   unfolding runCall calledOf stepCall
   call-one = by (eqb (judged m words) 0)
     where
       by : (t : Bool)
-          → answer (if t then runOf 1 m words else ran m words 0 (refused (judged m words))) ≡ stepped m words (if t then execute m words else refuse (judged m words))
+          → asStep (if t then runOf 1 m words else ran m words 0 (refused (judged m words))) ≡ stepped m words (if t then execute m words else refuse (judged m words))
       by true = run-one
       by false = refl

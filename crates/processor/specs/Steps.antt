@@ -43,17 +43,17 @@ isHalted crossed = false
 isHalted (faulted n) = false
 isHalted (refused n) = false
 
--- a run of one instruction as a step's answer
-abbrev pub answer : Ran → Step
-answer r = record { machine = r .machine; words = r .words; number = endingNumber (r .ending); halted = isHalted (r .ending) }
+-- a run of one instruction as a step's asStep
+abbrev pub asStep : Ran → Step
+asStep r = record { machine = r .machine; words = r .words; number = endingNumber (r .ending); halted = isHalted (r .ending) }
 
 -- a stretch that ended at a crossing goes on as a run, up to limit instructions in all
-abbrev onwardFrom : ℕ → Ran → Ending → Ran
-onwardFrom limit r halted = r
-onwardFrom limit r spent = r
-onwardFrom limit r crossed = runFrom false (limit - r .count) (r .count) (r .machine) (r .words)
-onwardFrom limit r (faulted n) = r
-onwardFrom limit r (refused n) = r
+abbrev afterStretchFrom : ℕ → Ran → Ending → Ran
+afterStretchFrom limit r halted = r
+afterStretchFrom limit r spent = r
+afterStretchFrom limit r crossed = runFrom false (limit - r .count) (r .count) (r .machine) (r .words)
+afterStretchFrom limit r (faulted n) = r
+afterStretchFrom limit r (refused n) = r
 
-unfoldable pub onward : ℕ → Ran → Ran
-onward limit r = onwardFrom limit r (r .ending)
+unfoldable pub afterStretch : ℕ → Ran → Ran
+afterStretch limit r = afterStretchFrom limit r (r .ending)

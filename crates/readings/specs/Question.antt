@@ -16,7 +16,7 @@ use Rattle.references.specs.Live.{passedOf}
 use Rattle.checks.specs.Judged.{judgedCheck}
 use Rattle.runs.specs.Run.{Ran, Ending, halted, spent, crossed, faulted, refused}
 use Rattle.processor.specs.Calls.{runCall}
-use Rattle.readings.specs.Scene.{Scene, machineOf, startOf, memoryOf}
+use Rattle.readings.specs.Scene.{Scene, machineOf, startOf, sceneMemory}
 
 pub data Question : Type 0 where
   pointer : ℕ → Question
@@ -57,4 +57,4 @@ answer (writing s p) = judgedCheck (machineOf s) access.Write p >>= (λ i. ok (i
 -- the source
 answer (passing s p length read write) = passed (machineOf s) p length read write >>= (λ d. ok (d ∷ []))
 -- A after one instruction
-answer (executing s a p words) = lastA (runCall 1 (startOf s a p) (memoryOf words))
+answer (executing s a p words) = lastA (runCall 1 (startOf s a p) (sceneMemory words))

@@ -19,11 +19,11 @@ pub record Scene : Type 0 where
   pub capabilities : List Capability
 
 -- segment, word
-abbrev pub untagged : ℕ → ℕ → Pointer
-untagged segment word = record { word = word; segment = segment; tag = false }
+abbrev pub untaggedTo : ℕ → ℕ → Pointer
+untaggedTo segment word = record { word = word; segment = segment; tag = false }
 
-abbrev pub tagged : ℕ → ℕ → Pointer
-tagged segment word = record { word = word; segment = segment; tag = true }
+abbrev pub taggedTo : ℕ → ℕ → Pointer
+taggedTo segment word = record { word = word; segment = segment; tag = true }
 
 -- segment, first word, number of words, source
 abbrev pub readOn : ℕ → ℕ → ℕ → ℕ → Capability
@@ -40,8 +40,8 @@ abbrev rows : List (List ℕ) → List ℕ
 rows [] = []
 rows (r ∷ rs) = fill 16 0 r ++ rows rs
 
-abbrev layoutOf : Scene → Layout
-layoutOf s =
+abbrev sceneLayout : Scene → Layout
+sceneLayout s =
     record {
       lengths = fill 16 0 (s .lengths);
       gates = fill 16 0 (s .gates);
@@ -53,23 +53,23 @@ layoutOf s =
       domains = length (s .rights);
     }
 
-abbrev frameOf : List Capability → Frame
-frameOf cs = record { capabilities = fill 9 noCapability cs; s = noPointer; back = noPointer; count = length cs; domain = 0 }
+abbrev sceneFrame : List Capability → Frame
+sceneFrame cs = record { capabilities = fill 9 noCapability cs; s = noPointer; back = noPointer; count = length cs; domain = 0 }
 
 -- a machine with a frame of these capabilities, if there are any
-abbrev framed : Machine → List Capability → Machine
-framed m [] = m
-framed m (c ∷ cs) =
+abbrev sceneFramed : Machine → List Capability → Machine
+sceneFramed m [] = m
+sceneFramed m (c ∷ cs) =
     record {
       layout = m .layout;
       registers = m .registers;
       pointers = m .pointers;
-      frames = set (m .frames) 0 (frameOf (c ∷ cs));
+      frames = set (m .frames) 0 (sceneFrame (c ∷ cs));
       depth = 1;
     }
 
 abbrev pub machineOf : Scene → Machine
-machineOf s = framed (freshOf (layoutOf s)) (s .capabilities)
+machineOf s = sceneFramed (freshOf (sceneLayout s)) (s .capabilities)
 
 -- the machine of a scene with this A and this pointer in register 0; its instruction is at word 0 of segment 0
 abbrev pub startOf : Scene → ℕ → Pointer → Machine
@@ -84,5 +84,5 @@ startOf s a p =
     }
 
 -- a memory that begins with these words
-abbrev pub memoryOf : List ℕ → List ℕ
-memoryOf words = words ++ replicate 8192 0
+abbrev pub sceneMemory : List ℕ → List ℕ
+sceneMemory words = words ++ replicate 8192 0

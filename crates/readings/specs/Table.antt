@@ -5,7 +5,7 @@ use mathlib.Core.List.{List, [], _∷_, _++_}
 use lib.IntN.{pos, negsuc}
 use lib.ListN.{replicate}
 use Rattle.words.specs.Answer.{Answer, refuse, ok}
-use Rattle.readings.specs.Scene.{Scene, untagged, tagged, readOn, writeOn}
+use Rattle.readings.specs.Scene.{Scene, untaggedTo, taggedTo, readOn, writeOn}
 use Rattle.readings.specs.Question.{Question, pointer, instruction, displace, reading, writing, passing, executing}
 
 pub record Row : Type 0 where
@@ -68,31 +68,31 @@ table =
     (instruction 0x0100A003 gives ok (1 ∷ 0 ∷ 2 ∷ 1 ∷ 3 ∷ [])) ∷
     (displace 4095 (pos 1) gives refuse 23) ∷
     (displace 0 (negsuc 0) gives refuse 23) ∷
-    (reading (tenWords 1) (untagged 0 9) gives ok (9 ∷ [])) ∷
-    (reading (tenWords 0) (untagged 0 9) gives refuse 22) ∷
-    (reading fourWords (tagged 3 4) gives ok (18 ∷ [])) ∷
-    (reading fourWords (tagged 3 7) gives ok (21 ∷ [])) ∷
-    (reading fourWords (tagged 3 3) gives refuse 24) ∷
-    (reading fourWords (tagged 3 8) gives refuse 24) ∷
-    (writing fourWords (tagged 3 5) gives refuse 24) ∷
-    (reading twoMatches (tagged 0 5) gives refuse 25) ∷
-    (passing readAndWrite (tagged 2 4) 4 true true gives refuse 24) ∷
-    (executing (program 1) 0 (untagged 0 0) (0x0C000FFF ∷ []) gives ok (4294967295 ∷ [])) ∷
-    (executing (program 2) 4294967295 (untagged 0 0) (0x03000001 ∷ 1 ∷ []) gives ok (0 ∷ [])) ∷
-    (executing (program 1) 0 (untagged 0 4095) (0x01000001 ∷ []) gives refuse 23) ∷
-    (executing (program 1) 0 (untagged 0 0) (0x01000FFF ∷ []) gives refuse 23) ∷
-    (executing (program 5) 0 (untagged 0 0) (0x0100A003 ∷ 0 ∷ 0 ∷ 4 ∷ 42 ∷ []) gives ok (42 ∷ [])) ∷
-    (executing (program 5) 0 (untagged 0 0) (0x0100A003 ∷ 0 ∷ 0 ∷ 0x00010000 ∷ []) gives refuse 26) ∷
-    (executing (program 5) 0 (untagged 0 0) (0x0100A003 ∷ 0 ∷ 0 ∷ 0x80001005 ∷ []) gives refuse 24) ∷
-    (executing (tenBeside 1) 0 (untagged 1 9) (0x01000000 ∷ replicate 9 0 ++ 77 ∷ []) gives ok (77 ∷ [])) ∷
-    (executing fourWords 0 (tagged 3 4) (0x01000000 ∷ replicate 17 0 ++ 77 ∷ []) gives ok (77 ∷ [])) ∷
-    (executing fourWords 0 (tagged 3 7) (0x01000000 ∷ replicate 20 0 ++ 77 ∷ []) gives ok (77 ∷ [])) ∷
-    (executing fourWords 0 (tagged 3 3) (0x01000000 ∷ []) gives refuse 24) ∷
-    (executing fourWords 0 (tagged 3 8) (0x01000000 ∷ []) gives refuse 24) ∷
-    (executing fourWords 0 (tagged 3 5) (0x02000000 ∷ []) gives refuse 24) ∷
-    (executing twoMatches 0 (tagged 0 5) (0x01000000 ∷ []) gives refuse 25) ∷
-    (executing readAndWrite 7 (untagged 0 2) (callWith 0xC0000004) gives refuse 24) ∷
-    (executing readAndWrite 7 (untagged 0 2) (callWith 0x40000004) gives ok (7 ∷ [])) ∷
-    underRights (λ r. executing (tenBeside r) 0 (untagged 1 10) (0x01000000 ∷ []) gives refuse 21) ++
-    underRights (λ r. reading (tenWords r) (untagged 0 10) gives refuse 21) ++
-    underRights (λ r. writing (tenWords r) (untagged 0 10) gives refuse 21)
+    (reading (tenWords 1) (untaggedTo 0 9) gives ok (9 ∷ [])) ∷
+    (reading (tenWords 0) (untaggedTo 0 9) gives refuse 22) ∷
+    (reading fourWords (taggedTo 3 4) gives ok (18 ∷ [])) ∷
+    (reading fourWords (taggedTo 3 7) gives ok (21 ∷ [])) ∷
+    (reading fourWords (taggedTo 3 3) gives refuse 24) ∷
+    (reading fourWords (taggedTo 3 8) gives refuse 24) ∷
+    (writing fourWords (taggedTo 3 5) gives refuse 24) ∷
+    (reading twoMatches (taggedTo 0 5) gives refuse 25) ∷
+    (passing readAndWrite (taggedTo 2 4) 4 true true gives refuse 24) ∷
+    (executing (program 1) 0 (untaggedTo 0 0) (0x0C000FFF ∷ []) gives ok (4294967295 ∷ [])) ∷
+    (executing (program 2) 4294967295 (untaggedTo 0 0) (0x03000001 ∷ 1 ∷ []) gives ok (0 ∷ [])) ∷
+    (executing (program 1) 0 (untaggedTo 0 4095) (0x01000001 ∷ []) gives refuse 23) ∷
+    (executing (program 1) 0 (untaggedTo 0 0) (0x01000FFF ∷ []) gives refuse 23) ∷
+    (executing (program 5) 0 (untaggedTo 0 0) (0x0100A003 ∷ 0 ∷ 0 ∷ 4 ∷ 42 ∷ []) gives ok (42 ∷ [])) ∷
+    (executing (program 5) 0 (untaggedTo 0 0) (0x0100A003 ∷ 0 ∷ 0 ∷ 0x00010000 ∷ []) gives refuse 26) ∷
+    (executing (program 5) 0 (untaggedTo 0 0) (0x0100A003 ∷ 0 ∷ 0 ∷ 0x80001005 ∷ []) gives refuse 24) ∷
+    (executing (tenBeside 1) 0 (untaggedTo 1 9) (0x01000000 ∷ replicate 9 0 ++ 77 ∷ []) gives ok (77 ∷ [])) ∷
+    (executing fourWords 0 (taggedTo 3 4) (0x01000000 ∷ replicate 17 0 ++ 77 ∷ []) gives ok (77 ∷ [])) ∷
+    (executing fourWords 0 (taggedTo 3 7) (0x01000000 ∷ replicate 20 0 ++ 77 ∷ []) gives ok (77 ∷ [])) ∷
+    (executing fourWords 0 (taggedTo 3 3) (0x01000000 ∷ []) gives refuse 24) ∷
+    (executing fourWords 0 (taggedTo 3 8) (0x01000000 ∷ []) gives refuse 24) ∷
+    (executing fourWords 0 (taggedTo 3 5) (0x02000000 ∷ []) gives refuse 24) ∷
+    (executing twoMatches 0 (taggedTo 0 5) (0x01000000 ∷ []) gives refuse 25) ∷
+    (executing readAndWrite 7 (untaggedTo 0 2) (callWith 0xC0000004) gives refuse 24) ∷
+    (executing readAndWrite 7 (untaggedTo 0 2) (callWith 0x40000004) gives ok (7 ∷ [])) ∷
+    underRights (λ r. executing (tenBeside r) 0 (untaggedTo 1 10) (0x01000000 ∷ []) gives refuse 21) ++
+    underRights (λ r. reading (tenWords r) (untaggedTo 0 10) gives refuse 21) ++
+    underRights (λ r. writing (tenWords r) (untaggedTo 0 10) gives refuse 21)

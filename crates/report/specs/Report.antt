@@ -7,24 +7,24 @@ use Rattle.state.specs.declared.record.Registers.{Registers}
 use Rattle.runs.specs.Run.{Ending, halted, spent, crossed, faulted, refused}
 use Rattle.image_format.specs.Output.{written}
 use Rattle.entry.specs.ImageRun.{Final, imageRun}
-use Rattle.report.specs.Text.{text, field, line}
+use Rattle.report.specs.Text.{text, labelled, line}
 use Rattle.report.specs.declared.Printed.{Printed}
 
 -- how a run ended; no run of an image ends at a crossing or as refused
 abbrev pub endText : Ending → List ℕ
 endText halted = text "end halted"
-endText (faulted n) = field (text "end fault ") n
+endText (faulted n) = labelled (text "end fault ") n
 endText spent = text "end spent"
 endText crossed = text "end crossed"
-endText (refused n) = field (text "refused ") n
+endText (refused n) = labelled (text "refused ") n
 
 -- count, domain, location and A, a line each
 unfoldable pub restText : ℕ → Registers → List ℕ
 restText count r =
-    line (field (text "count ") count) ++
-    line (field (text "domain ") (r .domain)) ++
-    line (field (text "at ") (r .segment) ++ field (32 ∷ []) (r .word)) ++
-    line (field (text "a ") (r .a))
+    line (labelled (text "count ") count) ++
+    line (labelled (text "domain ") (r .domain)) ++
+    line (labelled (text "at ") (r .segment) ++ labelled (32 ∷ []) (r .word)) ++
+    line (labelled (text "a ") (r .a))
 
 -- what comes of an image: the lines of its run, or the refusal alone
 abbrev pub answerText : Answer Final → List ℕ

@@ -21,8 +21,8 @@ abbrev pub decimal : ℕ → List ℕ
 decimal n = digits (suc n) n
 
 -- a label and a number
-abbrev pub field : List ℕ → ℕ → List ℕ
-field label n = label ++ decimal n
+abbrev pub labelled : List ℕ → ℕ → List ℕ
+labelled label n = label ++ decimal n
 
 -- a text with its line end
 abbrev pub line : List ℕ → List ℕ

@@ -5,7 +5,7 @@ ghost use Prim.Native.Nat.{_+_, _≤_};
 ghost use lib.ListN.{length};
 ghost use Rattle.runs.specs.Resume.{endAnswer};
 ghost use Rattle.image_format.specs.Output.{written};
-ghost use Rattle.report.specs.Text.{text, field, line};
+ghost use Rattle.report.specs.Text.{text, labelled, line};
 ghost use Rattle.report.specs.Report.{endText, restText};
 use crate::text::put_decimal;
 use crate::text::put_text;
@@ -15,8 +15,8 @@ use state::record::Registers;
 // A label and a number, from a place on; the place after them.
 fn put_field(output: &mut [u8], at: usize, label: &[u8], n: u32) -> usize
     requires { ⌜ at + length (now label) + 10 ≤ length (now output) ⌝ }
-    ensures { λ r. ⌜ r ≡ at + length (field (now (label .entry)) n) ⌝ }
-    ensures { λ r. ⌜ now (output .exit) ≡ written (now (output .entry)) at (field (now (label .entry)) n) ⌝ }
+    ensures { λ r. ⌜ r ≡ at + length (labelled (now (label .entry)) n) ⌝ }
+    ensures { λ r. ⌜ now (output .exit) ≡ written (now (output .entry)) at (labelled (now (label .entry)) n) ⌝ }
     ensures { λ r. ⌜ r ≤ at + length (now (label .entry)) + 10 ⌝ }
 {
     let next = put_text(output, at, label);
@@ -26,8 +26,8 @@ fn put_field(output: &mut [u8], at: usize, label: &[u8], n: u32) -> usize
 // The same as a line.
 fn put_line(output: &mut [u8], at: usize, label: &[u8], n: u32) -> usize
     requires { ⌜ at + length (now label) + 11 ≤ length (now output) ⌝ }
-    ensures { λ r. ⌜ r ≡ at + length (line (field (now (label .entry)) n)) ⌝ }
-    ensures { λ r. ⌜ now (output .exit) ≡ written (now (output .entry)) at (line (field (now (label .entry)) n)) ⌝ }
+    ensures { λ r. ⌜ r ≡ at + length (line (labelled (now (label .entry)) n)) ⌝ }
+    ensures { λ r. ⌜ now (output .exit) ≡ written (now (output .entry)) at (line (labelled (now (label .entry)) n)) ⌝ }
     ensures { λ r. ⌜ r ≤ at + length (now (label .entry)) + 11 ⌝ }
 {
     let next = put_field(output, at, label, n);
@@ -37,8 +37,8 @@ fn put_line(output: &mut [u8], at: usize, label: &[u8], n: u32) -> usize
 // The location's line.
 fn put_location(output: &mut [u8], at: usize, segment: u8, word: u16) -> usize
     requires { ⌜ at + 25 ≤ length (now output) ⌝ }
-    ensures { λ r. ⌜ r ≡ at + length (line (field (text "at ") segment ++ field (32 ∷ []) word)) ⌝ }
-    ensures { λ r. ⌜ now (output .exit) ≡ written (now (output .entry)) at (line (field (text "at ") segment ++ field (32 ∷ []) word)) ⌝ }
+    ensures { λ r. ⌜ r ≡ at + length (line (labelled (text "at ") segment ++ labelled (32 ∷ []) word)) ⌝ }
+    ensures { λ r. ⌜ now (output .exit) ≡ written (now (output .entry)) at (line (labelled (text "at ") segment ++ labelled (32 ∷ []) word)) ⌝ }
     ensures { λ r. ⌜ r ≤ at + 25 ⌝ }
 {
     let first = put_field(output, at, b"at ", segment as u32);

@@ -12,7 +12,7 @@ use Rattle.image_format.specs.Head.{headFields, headBody, headOf}
 use Rattle.image_format.specs.Segment.{segmentLength, segmentFields, segmentBody, segmentOf, segmentsOf}
 use Rattle.image_format.specs.Domain.{allRights, domainBody, domainOf, domainsOf}
 use Rattle.image_format.specs.Image.{Image, endOf, imageOf}
-use Rattle.image_reader.specs.Reader.{readOf}
+use Rattle.image_reader.specs.Reader.{readImage}
 
 -- one segment of one word, HALT, and one domain that may execute it
 abbrev example : List ℕ
@@ -47,10 +47,10 @@ refusals =
     imageOf (set example 11 128) ∷
     imageOf (set example 29 16) ∷
     imageOf (example ++ (0 ∷ [])) ∷
-    readOf [] (replicate 8191 0) ∷
+    readImage [] (replicate 8191 0) ∷
     []
 
 numbers : refusals ≡
     refuse 1 ∷ refuse 1 ∷ refuse 1 ∷ refuse 2 ∷ refuse 3 ∷ refuse 1 ∷ refuse 4 ∷ refuse 4 ∷ refuse 4 ∷ refuse 6 ∷ refuse 7 ∷ []
-unfolding refusals imageOf headOf headBody headFields chunkOf headerOf pairOf wordOf wordsOf pointerOf field segmentsOf segmentOf segmentLength segmentBody segmentFields domainsOf domainOf domainBody allRights endOf readOf
+unfolding refusals imageOf headOf headBody headFields chunkOf headerOf pairOf wordOf wordsOf pointerOf field segmentsOf segmentOf segmentLength segmentBody segmentFields domainsOf domainOf domainBody allRights endOf readImage
 numbers = refl

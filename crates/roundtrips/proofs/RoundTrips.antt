@@ -16,8 +16,8 @@ use Rattle.fresh.specs.Fresh.{freshOf}
 use Rattle.soundness.proofs.Facts.{sound-facts}
 use Rattle.image_format.specs.Segment.{allWords}
 use Rattle.image_format.specs.Image.{Image, imageOf, imageFrom, bytesOf, layoutOf, segmentsIn}
-use Rattle.image_reader.specs.Reader.{readOf, machineAfter, memoryAfter}
-use Rattle.image_writer.specs.Writer.{writeOf}
+use Rattle.image_reader.specs.Reader.{readImage, machineAfter, memoryAfter}
+use Rattle.image_writer.specs.Writer.{writeImage}
 use Rattle.image_format.proofs.Answers.{passed, test, after, the-value}
 use Rattle.roundtrips.proofs.Accepted.{accepted, longest}
 use Rattle.roundtrips.proofs.AcceptedSound.{accepted-sound}
@@ -27,8 +27,8 @@ use Rattle.roundtrips.proofs.LayoutBack.{Arrays, words-in-order, words-
 use Rattle.roundtrips.proofs.LayoutForth.{image-again}
 
 -- the facts of an accepted read
-read-image : (bytes ws : List ℕ) (i : Image) → readOf bytes ws ≡ ok i → (8192 ≤ length ws) × (imageOf bytes ≡ ok i)
-unfolding readOf
+read-image : (bytes ws : List ℕ) (i : Image) → readImage bytes ws ≡ ok i → (8192 ≤ length ws) × (imageOf bytes ≡ ok i)
+unfolding readImage
 read-image bytes ws i e = let t = passed (leb 8192 (length ws)) 7 _ e in (leb-true _ _ (t .0), t .1)
 
 record Wrote (m : Machine) (words output bytes : List ℕ) : Type 0 where
@@ -36,8 +36,8 @@ record Wrote (m : Machine) (words output bytes : List ℕ) : Type 0 where
   enough : 8192 ≤ length words
   is : bytesOf (imageFrom (m .layout) words) ≡ bytes
 
-wrote : (m : Machine) (words output bytes : List ℕ) → writeOf m words output ≡ ok bytes → Wrote m words output bytes
-unfolding writeOf
+wrote : (m : Machine) (words output bytes : List ℕ) → writeImage m words output ≡ ok bytes → Wrote m words output bytes
+unfolding writeImage
 wrote m words output bytes e =
     let t = after ((require (soundTest m) 9 >> require (leb 8192 (length words)) 7) >> require (leb (length (bytesOf (imageFrom (m .layout) words))) (length output)) 8) _ e in
     let u = after (require (soundTest m) 9 >> require (leb 8192 (length words)) 7) _ (t .0) in
@@ -46,42 +46,42 @@ wrote m words output bytes e =
 
 -- what a read gives of a layout with its words: the fresh machine of the layout, and its words from the start of the memory
 pub record GivesBack (l : Layout) (words bytes : List ℕ) (m : Machine) (ws : List ℕ) : Type 0 where
-  pub machine : machineAfter m (readOf bytes ws) ≡ record { machine = freshOf l; number = 0 }
-  pub memory : memoryAfter ws (readOf bytes ws) ≡ take (wordsIn (l .lengths)) words ++ drop (wordsIn (l .lengths)) ws
+  pub machine : machineAfter m (readImage bytes ws) ≡ record { machine = freshOf l; number = 0 }
+  pub memory : memoryAfter ws (readImage bytes ws) ≡ take (wordsIn (l .lengths)) words ++ drop (wordsIn (l .lengths)) ws
 
 -- the bytes that are written of any machine are read back as its fresh machine with the same words
-pub write-then-read : (m : Machine) (words output bytes : List ℕ) → writeOf m words output ≡ ok bytes → Arrays (m .layout) → Below (2 ^ 32) words
+pub write-then-read : (m : Machine) (words output bytes : List ℕ) → writeImage m words output ≡ ok bytes → Arrays (m .layout) → Below (2 ^ 32) words
     → (m′ : Machine) (ws : List ℕ) → 8192 ≤ length ws → GivesBack (m .layout) words bytes m′ ws
-unfolding readOf machineAfter memoryAfter
+unfolding readImage machineAfter memoryAfter
 write-then-read m words output bytes e a b m′ ws h =
     let w = wrote m words output bytes e in
     let l = m .layout in
     let s = sound-facts m (w .sound) .layout in
     let i = imageFrom l words in
     let back : imageOf bytes ≡ ok i = ap imageOf (sym (w .is)) ∙ image-back i (good-image l words s a (w .enough)) (wide-image l words s a (w .enough) b) in
-    let r : readOf bytes ws ≡ ok i = simp (le-leb 8192 (length ws) h) back in
+    let r : readImage bytes ws ≡ ok i = simp (le-leb 8192 (length ws) h) back in
     let n : length (allWords (segmentsIn l words)) ≡ wordsIn (l .lengths) = words-count l words s a (w .enough) in
     record {
       machine = ap (machineAfter m′) r ∙ ap (λ (x : Layout). record { machine = freshOf x; number = 0 }) (layout-back l words s a (w .enough));
       memory = ap (memoryAfter ws) r ∙ (λ j. words-in-order l words s a (w .enough) j ++ drop (n j) ws);
     }
 
-module _ (bytes ws : List ℕ) (i : Image) (e : readOf bytes ws ≡ ok i) where
+module _ (bytes ws : List ℕ) (i : Image) (e : readImage bytes ws ≡ ok i) where
   -- the bytes that are read are written of the machine and the memory that come of them
   pub read-then-write : (m : Machine) (output : List ℕ) → Below 256 bytes → length bytes ≤ length output
-      → writeOf (machineAfter m (readOf bytes ws) .machine) (memoryAfter ws (readOf bytes ws)) output ≡ ok bytes
-  unfolding writeOf machineAfter memoryAfter freshOf
+      → writeImage (machineAfter m (readImage bytes ws) .machine) (memoryAfter ws (readImage bytes ws)) output ≡ ok bytes
+  unfolding writeImage machineAfter memoryAfter freshOf
   read-then-write m output b h =
       let r = read-image bytes ws i e in
       let g = accepted bytes i (r .1) in
       let mem = allWords (i .segments) ++ drop (length (allWords (i .segments))) ws in
       let same : bytesOf (imageFrom (layoutOf i) mem) ≡ bytes = ap bytesOf (image-again i g (drop (length (allWords (i .segments))) ws)) ∙ image-forth bytes b (r .1) in
       let size : length mem ≡ length ws = length-append (allWords (i .segments)) (drop (length (allWords (i .segments))) ws) ∙ (let z : length (allWords (i .segments)) + length (drop (length (allWords (i .segments))) ws) ≡ length ws = omega (arith, length-drop (length (allWords (i .segments))) ws, r .0, g .words) in z) in
-      ap (λ (x : Answer Image). writeOf (machineAfter m x .machine) (memoryAfter ws x) output) e ∙
+      ap (λ (x : Answer Image). writeImage (machineAfter m x .machine) (memoryAfter ws x) output) e ∙
       simp (accepted-sound bytes i (r .1), le-leb 8192 (length mem) (omega (arith, r .0)), same, le-leb (length bytes) (length output) h)
 
   -- the machine that is read is sound
-  pub read-sound : (m : Machine) → soundTest (machineAfter m (readOf bytes ws) .machine) ≡ true
+  pub read-sound : (m : Machine) → soundTest (machineAfter m (readImage bytes ws) .machine) ≡ true
   unfolding machineAfter
   read-sound m = ap (λ (x : Answer Image). soundTest (machineAfter m x .machine)) e ∙ accepted-sound bytes i (read-image bytes ws i e .1)
 

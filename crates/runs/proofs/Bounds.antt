@@ -20,7 +20,7 @@ use Rattle.instructions.specs.Cycle.{Progress, ended, moved, entering, leaving,
 use Rattle.crossings.specs.Crossing.{Changes, enterParts, leaveCheck, leaveParts}
 use Rattle.arguments.specs.ArgumentList.{frameOf}
 use Rattle.state.specs.Record.{noPointer}
-use Rattle.local_runs.specs.LocalRun.{Paused, paused, onward, localFrom}
+use Rattle.local_runs.specs.LocalRun.{Paused, paused, afterCycle, localFrom}
 use Rattle.runs.specs.Resume.{Countable, Resumed, ends, goes, resumeAfter, resumeOf}
 use Rattle.runs.proofs.Free.{Free, plan-free}
 use Rattle.local_runs.proofs.LocalRuns.{cycle-length}
@@ -79,7 +79,7 @@ module _ (lengths gates rights stacks bases : List ℕ) (depth : ℕ) (frame : F
     where
       by : ((s : Registers) (qs : List Pointer) (v : List ℕ) → Fine depth low limit (from k (n + 1) s qs v .pause .count) (from k (n + 1) s qs v .pause .event))
           → (t : Answer Progress) → FreeCycle depth t
-          → let p = onward (from k (n + 1)) n r ps (cycleWords lengths gates rights stacks bases words depth frame r ps) t in Fine depth low limit (p .pause .count) (p .pause .event)
+          → let p = afterCycle (from k (n + 1)) n r ps (cycleWords lengths gates rights stacks bases words depth frame r ps) t in Fine depth low limit (p .pause .count) (p .pause .event)
       by more (refuse f) free = tt
       by more (ok ended) free = omega arith
       by more (ok (moved s qs)) free = more s qs _
@@ -93,7 +93,7 @@ module _ (lengths gates rights stacks bases : List ℕ) (depth : ℕ) (frame : F
       by (local-length k (n + 1)) (cycleOf lengths gates rights stacks bases words depth frame r ps) (cycleWords lengths gates rights stacks bases words depth frame r ps) (cycle-length lengths gates rights stacks bases depth frame words r ps)
     where
       by : ((s : Registers) (qs : List Pointer) (v : List ℕ) → length (from k (n + 1) s qs v .words) ≡ length v)
-          → (t : Answer Progress) (next : List ℕ) → length next ≡ length words → length (onward (from k (n + 1)) n r ps next t .words) ≡ length words
+          → (t : Answer Progress) (next : List ℕ) → length next ≡ length words → length (afterCycle (from k (n + 1)) n r ps next t .words) ≡ length words
       by more (refuse f) next h = h
       by more (ok ended) next h = h
       by more (ok (moved s qs)) next h = more s qs next ∙ h

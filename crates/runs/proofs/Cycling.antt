@@ -22,14 +22,14 @@ use Rattle.instructions.specs.declared.cycle.Event.the-variants as event
 use Rattle.memory.specs.Reader.{readOf, fetchOf, readWord, fetch, stored, writtenOf}
 use Rattle.instructions.specs.Plan.{Plan, halt, move, store, enter, leave}
 use Rattle.instructions.specs.Instruction.{planOf}
-use Rattle.instructions.specs.Cycle.{Progress, ended, moved, entering, leaving, registersAt, settled, settledWords, planned, cycleOf, cycleWords}
+use Rattle.instructions.specs.Cycle.{Progress, ended, moved, entering, leaving, movedRegisters, settled, settledWords, planned, cycleOf, cycleWords}
 use Rattle.memory.proofs.Answers.{accept-then}
 use Rattle.arguments.specs.ArgumentList.{frameOf}
 use Rattle.crossings.specs.Crossing.{Changes, entered, left, enterOf, leaveOf, leaveCheck, enterParts, leaveParts}
 use Rattle.runs.specs.Step.{Act, cross, Done, done, resolve, decide, commit, execute}
-use Rattle.runs.specs.Step.{moved as moving}
+use Rattle.runs.specs.Step.{proceeded}
 use Rattle.runs.specs.Run.{Ran, ran, Ending, halted, spent, crossed, faulted, after, runFrom}
-use Rattle.local_runs.specs.LocalRun.{Paused, paused, onward, localFrom}
+use Rattle.local_runs.specs.LocalRun.{Paused, paused, afterCycle, localFrom}
 use Rattle.runs.specs.Resume.{Resumed, ends, goes, resumeAfter, resumeOf}
 
 -- a machine with other registers and pointers
@@ -110,22 +110,22 @@ module _ (stretch : Bool) (limit k n : ℕ) (count : limit - (n + 1) ≡ k) (m :
 
   -- a store, by the number of its check
   stores : (v i a : ℕ) (next : Machine) →
-      after stretch (runFrom stretch k (n + 1)) n m words (accept v i >>= (λ j. ok (done next (set words j a) moving)))
-      ≡ after stretch (runFrom stretch k (n + 1)) n m (stored words a (accept v i)) (accept v (done next (stored words a (accept v i)) moving))
+      after stretch (runFrom stretch k (n + 1)) n m words (accept v i >>= (λ j. ok (done next (set words j a) proceeded)))
+      ≡ after stretch (runFrom stretch k (n + 1)) n m (stored words a (accept v i)) (accept v (done next (stored words a (accept v i)) proceeded))
   stores v i a next = by (eqb v 0)
     where
       by : (t : Bool) →
-          after stretch (runFrom stretch k (n + 1)) n m words ((if t then ok i else refuse v) >>= (λ j. ok (done next (set words j a) moving)))
-          ≡ after stretch (runFrom stretch k (n + 1)) n m (stored words a (if t then ok i else refuse v)) (if t then ok (done next (stored words a (if t then ok i else refuse v)) moving) else refuse v)
+          after stretch (runFrom stretch k (n + 1)) n m words ((if t then ok i else refuse v) >>= (λ j. ok (done next (set words j a) proceeded)))
+          ≡ after stretch (runFrom stretch k (n + 1)) n m (stored words a (if t then ok i else refuse v)) (if t then ok (done next (stored words a (if t then ok i else refuse v)) proceeded) else refuse v)
       by true = refl
       by false = refl
 
   accepted-cycle : (v : ℕ) (r : Registers) (pointers : List Pointer) (next : List ℕ) →
-      after stretch (runFrom stretch k (n + 1)) n m next (accept v (done (withParts m r pointers) next moving)) ≡ cycled next (accept v (moved r pointers))
+      after stretch (runFrom stretch k (n + 1)) n m next (accept v (done (withParts m r pointers) next proceeded)) ≡ cycled next (accept v (moved r pointers))
   accepted-cycle v r pointers next = by (eqb v 0)
     where
       by : (t : Bool) →
-          after stretch (runFrom stretch k (n + 1)) n m next (if t then ok (done (withParts m r pointers) next moving) else refuse v) ≡ cycled next (if t then ok (moved r pointers) else refuse v)
+          after stretch (runFrom stretch k (n + 1)) n m next (if t then ok (done (withParts m r pointers) next proceeded) else refuse v) ≡ cycled next (if t then ok (moved r pointers) else refuse v)
       by true = refl
       by false = refl
 
@@ -138,8 +138,8 @@ module _ (stretch : Bool) (limit k n : ℕ) (count : limit - (n + 1) ≡ k) (m :
   by-plan u (ok halt) = refl
   by-plan u (ok (move a s w ps)) = refl
   by-plan u (ok (store p v)) =
-      rw u (rw u at (stores (verdictOf (m .layout .lengths) (m .layout .rights) (m .registers .domain) (inUse (m .depth)) frame access.Write p) (indexOf bases (p .segment) (p .word)) v (withParts m (registersAt (m .registers) (m .registers .a) (m .registers .segment) (m .registers .word + 1)) (m .pointers))
-      ∙ accepted-cycle (verdictOf (m .layout .lengths) (m .layout .rights) (m .registers .domain) (inUse (m .depth)) frame access.Write p) (registersAt (m .registers) (m .registers .a) (m .registers .segment) (m .registers .word + 1)) (m .pointers) _))
+      rw u (rw u at (stores (verdictOf (m .layout .lengths) (m .layout .rights) (m .registers .domain) (inUse (m .depth)) frame access.Write p) (indexOf bases (p .segment) (p .word)) v (withParts m (movedRegisters (m .registers) (m .registers .a) (m .registers .segment) (m .registers .word + 1)) (m .pointers))
+      ∙ accepted-cycle (verdictOf (m .layout .lengths) (m .layout .rights) (m .registers .domain) (inUse (m .depth)) frame access.Write p) (movedRegisters (m .registers) (m .registers .a) (m .registers .segment) (m .registers .word + 1)) (m .pointers) _))
   by-plan u (ok (enter p)) =
       rw u (rw u at (enters p (frameOf (readOf (m .layout .lengths) (m .layout .rights) bases words (m .registers .domain) (inUse (m .depth)) frame) (getD (m .pointers) 0 noPointer) (getD (m .pointers) 1 noPointer) (m .registers .domain) (inUse (m .depth)) frame)))
   by-plan u (ok (leave p)) =
@@ -167,7 +167,7 @@ module _ (stretch : Bool) (limit : ℕ) where
     where
       by : ((m : Machine) → inUse (m .depth) ≡ m .depth → (words : List ℕ) → runFrom stretch k (n + 1) m words ≡ resumeLocal stretch limit m (localAt m k (n + 1) words))
           → (t : Answer Progress) (next : List ℕ) → cycled stretch limit k n (omega arith) m words next t
-          ≡ resumeLocal stretch limit m (onward (λ r pointers v. localAt (withParts m r pointers) k (n + 1) v) n (m .registers) (m .pointers) next t)
+          ≡ resumeLocal stretch limit m (afterCycle (λ r pointers v. localAt (withParts m r pointers) k (n + 1) v) n (m .registers) (m .pointers) next t)
       by more (refuse f) next = refl
       by more (ok ended) next = refl
       by more (ok (moved r pointers)) next = more (withParts m r pointers) u next

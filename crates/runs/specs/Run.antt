@@ -8,7 +8,7 @@ use Rattle.words.specs.Answer.{Answer, refuse, ok, if_then_else_}
 use Rattle.words.specs.Numbers.{memoryTooShort, notSound}
 use Rattle.state.specs.declared.record.Machine.{Machine}
 use Rattle.soundness.specs.Sound.{soundTest}
-use Rattle.runs.specs.Step.{Event, stopped, moved, crossing, Done, execute}
+use Rattle.runs.specs.Step.{Completion, stopped, proceeded, crossing, Done, execute}
 
 -- how a run ends; only a stretch ends at a crossing, and a call that is refused runs nothing
 pub data Ending : Type 0 where
@@ -25,15 +25,15 @@ abbrev pub ran : Machine → List ℕ → ℕ → Ending → Ran
 ran m words n e = record { machine = m; words = words; count = n; ending = e }
 
 -- after a completed instruction: HALT ends a run; a crossing ends a stretch; else go says how it goes on
-abbrev pub afterEvent : Bool → (Machine → List ℕ → Ran) → ℕ → Machine → List ℕ → Event → Ran
-afterEvent stretch go n m words stopped = ran m words (n + 1) halted
-afterEvent stretch go n m words moved = go m words
-afterEvent stretch go n m words crossing = if stretch then ran m words (n + 1) crossed else go m words
+abbrev pub afterCompletion : Bool → (Machine → List ℕ → Ran) → ℕ → Machine → List ℕ → Completion → Ran
+afterCompletion stretch go n m words stopped = ran m words (n + 1) halted
+afterCompletion stretch go n m words proceeded = go m words
+afterCompletion stretch go n m words crossing = if stretch then ran m words (n + 1) crossed else go m words
 
 -- after an instruction: one that faults ends the run and is not counted
 abbrev pub after : Bool → (Machine → List ℕ → Ran) → ℕ → Machine → List ℕ → Answer Done → Ran
 after stretch go n m words (refuse f) = ran m words n (faulted f)
-after stretch go n m words (ok d) = afterEvent stretch go n (d .machine) (d .words) (d .event)
+after stretch go n m words (ok d) = afterCompletion stretch go n (d .machine) (d .words) (d .event)
 
 -- at most k instructions more, n completed so far
 unfoldable pub runFrom : Bool → ℕ → ℕ → Machine → List ℕ → Ran

@@ -22,12 +22,12 @@ pub data Act : Type 0 where
   cross : Machine → Act
 
 -- what a completed instruction was
-pub data Event : Type 0 where
-  stopped moved crossing : Event
+pub data Completion : Type 0 where
+  stopped proceeded crossing : Completion
 
-abbrev pub isStop : Event → Bool
+abbrev pub isStop : Completion → Bool
 isStop stopped = true
-isStop moved = false
+isStop proceeded = false
 isStop crossing = false
 
 -- the record with this A, at this segment and word, with these pointers
@@ -44,9 +44,9 @@ movedTo m a segment word pointers =
 pub record Done : Type 0 where
   pub machine : Machine
   pub words : List ℕ
-  pub event : Event
+  pub event : Completion
 
-abbrev pub done : Machine → List ℕ → Event → Done
+abbrev pub done : Machine → List ℕ → Completion → Done
 done m words e = record { machine = m; words = words; event = e }
 
 -- a plan with its crossing made
@@ -65,9 +65,9 @@ decide m fetched read =
 -- the only definition that changes words: the W check of the target is the last check of a storing instruction
 unfoldable pub commit : Machine → List ℕ → Act → Answer Done
 commit m words stop = ok (done m words stopped)
-commit m words (proceed a segment word pointers) = ok (done (movedTo m a segment word pointers) words moved)
+commit m words (proceed a segment word pointers) = ok (done (movedTo m a segment word pointers) words proceeded)
 commit m words (put p v) =
-    check m access.Write p >>= (λ i. ok (done (movedTo m (m .registers .a) (m .registers .segment) (m .registers .word + 1) (m .pointers)) (set words i v) moved))
+    check m access.Write p >>= (λ i. ok (done (movedTo m (m .registers .a) (m .registers .segment) (m .registers .word + 1) (m .pointers)) (set words i v) proceeded))
 commit m words (cross n) = ok (done n words crossing)
 
 -- one instruction of a sound machine

@@ -7,13 +7,13 @@ use mathlib.Core.Path.{_≡_, refl, sym, _∙_}
 use borrow.Author.Tests.{leb-true, ltb-true}
 use lib.Dec.{leb, ltb}
 use lib.ListN.{length, getD, take, drop, length-take, length-drop}
-use Rattle.words.specs.Answer.{Answer, refuse, ok, _>>_, require}
+use Rattle.words.specs.Answer.{Answer, refuse, ok, _>>_, require, numberOf}
 use Rattle.state.specs.declared.record.Machine.{Machine}
 use Rattle.state.specs.Bases.{baseOf, basesOf}
 use Rattle.state.proofs.Sums.{base-apart, bases-at}
 use Rattle.soundness.specs.Sound.{soundTest}
 use Rattle.soundness.proofs.Facts.{sound-facts}
-use Rattle.segments.specs.Segment.{segmentCheck, numberOf, unlessRefused, partOf, segmentOf}
+use Rattle.segments.specs.Segment.{segmentCheck, unlessRefused, partOf, segmentPart}
 
 pub record Given (m : Machine) (size number : ℕ) : Type 0 where
   pub accepted : segmentCheck m size number ≡ ok tt
@@ -48,7 +48,7 @@ given m size number n q z =
 
 module _ (m : Machine) (words : List ℕ) (number : ℕ) where
   -- a refused part is empty
-  pub no-part : (n : ℕ) → n ≡ numberOf (segmentCheck m (length words) number) → (n ≡ 0 → ⊥) → [] ≡ segmentOf m words number
+  pub no-part : (n : ℕ) → n ≡ numberOf (segmentCheck m (length words) number) → (n ≡ 0 → ⊥) → [] ≡ segmentPart m words number
   no-part n q f = by (segmentCheck m (length words) number) (λ e. f (q ∙ e))
     where
       by : (a : Answer (Unit {0})) → (numberOf a ≡ 0 → ⊥) → [] ≡ unlessRefused a (partOf (m .layout .lengths) words number)
@@ -56,7 +56,7 @@ module _ (m : Machine) (words : List ℕ) (number : ℕ) where
       by (ok u) f = absurd (f refl)
 
   -- a given part has as many words as the segment
-  pub part-length : Given m (length words) number → length (segmentOf m words number) ≡ getD (m .layout .lengths) number 0
+  pub part-length : Given m (length words) number → length (segmentPart m words number) ≡ getD (m .layout .lengths) number 0
   part-length g = rw (g .accepted, length-take, length-drop) (omega (arith, g .room))
 
   module _ (g : Given m (length words) number) (places : List ℕ) (q : places ≡ basesOf (m .layout .lengths)) where
@@ -64,7 +64,7 @@ module _ (m : Machine) (words : List ℕ) (number : ℕ) where
     base = rw q (bases-at _ number (g .row))
 
     -- the words from the base to the end
-    pub part : take (getD places number 0 + getD (m .layout .lengths) number 0 - getD places number 0) (drop (getD places number 0) words) ≡ segmentOf m words number
+    pub part : take (getD places number 0 + getD (m .layout .lengths) number 0 - getD places number 0) (drop (getD places number 0) words) ≡ segmentPart m words number
     part = rw (back (getD places number 0) (getD (m .layout .lengths) number 0), base, g .accepted)
       where
         back : (a b : ℕ) → a + b - a ≡ b

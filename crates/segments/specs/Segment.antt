@@ -3,7 +3,7 @@ use Prim.Native.Nat.{ℕ}
 use mathlib.Core.List.{List, []}
 use lib.Dec.{leb, ltb}
 use lib.ListN.{length, take, drop, getD}
-use Rattle.words.specs.Answer.{Answer, refuse, ok, _>>_, require}
+use Rattle.words.specs.Answer.{numberOf, Answer, refuse, ok, _>>_, require}
 use Rattle.words.specs.Numbers.{notSound, memoryTooShort, noWord}
 use Rattle.state.specs.declared.record.Machine.{Machine}
 use Rattle.state.specs.Bases.{baseOf}
@@ -13,11 +13,6 @@ use Rattle.soundness.specs.Sound.{soundTest}
 unfoldable pub segmentCheck : Machine → ℕ → ℕ → Answer (Unit {0})
 segmentCheck m size number =
     require (soundTest m) notSound >> require (leb 8192 size) memoryTooShort >> require (ltb number (m .layout .segments)) noWord
-
--- 0, or the number of the refusal
-abbrev pub numberOf : Answer (Unit {0}) → ℕ
-numberOf (refuse n) = n
-numberOf (ok u) = 0
 
 -- a list where there is no refusal, else nothing
 abbrev pub unlessRefused : Answer (Unit {0}) → List ℕ → List ℕ
@@ -33,5 +28,5 @@ abbrev pub segmentNumber : Machine → List ℕ → ℕ → ℕ
 segmentNumber m words number = numberOf (segmentCheck m (length words) number)
 
 -- the part that the host gets
-abbrev pub segmentOf : Machine → List ℕ → ℕ → List ℕ
-segmentOf m words number = unlessRefused (segmentCheck m (length words) number) (partOf (m .layout .lengths) words number)
+abbrev pub segmentPart : Machine → List ℕ → ℕ → List ℕ
+segmentPart m words number = unlessRefused (segmentCheck m (length words) number) (partOf (m .layout .lengths) words number)

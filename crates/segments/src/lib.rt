@@ -1,6 +1,7 @@
 // The part of the memory that a segment occupies.
 ghost use mathlib.Core.Path.{_≡_};
-ghost use Rattle.segments.specs.Segment.{segmentCheck, numberOf, segmentNumber, segmentOf};
+ghost use Rattle.segments.specs.Segment.{segmentCheck, segmentNumber, segmentPart};
+ghost use Rattle.words.specs.Answer.{numberOf};
 use soundness::sound;
 use state::bases::bases;
 use state::record::Machine;
@@ -30,7 +31,7 @@ pub fn segment_number(m: Machine, words: &[u32], number: u8) -> u8
 
 // The words of a segment; none where segment_number refuses.
 pub fn segment(m: Machine, words: &[u32], number: u8) -> &[u32]
-    ensures { λ r. ⌜ now r ≡ segmentOf m (now (words .entry)) number ⌝ }
+    ensures { λ r. ⌜ now r ≡ segmentPart m (now (words .entry)) number ⌝ }
 {
     if judge(m, words.len(), number) != 0 {
         return &words[0..0];
@@ -45,7 +46,7 @@ pub fn segment(m: Machine, words: &[u32], number: u8) -> &[u32]
 
 // The same words, to be written.
 pub fn segment_mut(m: Machine, words: &mut [u32], number: u8) -> &mut [u32]
-    ensures { λ r. ⌜ now r ≡ segmentOf m (now (words .entry)) number ⌝ }
+    ensures { λ r. ⌜ now r ≡ segmentPart m (now (words .entry)) number ⌝ }
 {
     if judge(m, words.len(), number) != 0 {
         return &mut words[0..0];

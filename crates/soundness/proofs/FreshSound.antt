@@ -6,22 +6,22 @@ use mathlib.Core.Bool.{true, false}
 use borrow.Author.Tests.{le-leb}
 use lib.ListN.{replicate, set}
 use Rattle.state.specs.declared.record.Layout.{Layout}
-use Rattle.state.specs.Record.{noPointer}
+use Rattle.state.specs.Record.{noPointer, freeFrame}
 use Rattle.layout_soundness.specs.SoundLayout.{allFrom, layoutTest}
 use Rattle.soundness.specs.Sound.{pointerTest, pointersTest, emptyCapability, emptyPointer, emptyFrame, framesTest, soundTest}
-use Rattle.fresh.specs.Fresh.{zeroFrame, freshOf}
+use Rattle.fresh.specs.Fresh.{freshOf}
 use Rattle.layout_soundness.proofs.Tests.{join}
 use Rattle.soundness.proofs.Facts.{layout-facts, facts-registers}
 
-pub zero-frame : emptyFrame zeroFrame ≡ true
+pub free-frame : emptyFrame freeFrame ≡ true
 unfolding emptyFrame emptyPointer emptyCapability allFrom
-zero-frame = refl
+free-frame = refl
 
 stack-pointer : (segment : ℕ) → segment ≤ 15 → pointersTest (set (replicate 8 noPointer) 2 (record { word = 0; segment = segment; tag = false })) ≡ true
 unfolding pointersTest pointerTest allFrom
 stack-pointer segment h = simp (le-leb _ _ h)
 
-no-frames : (domains : ℕ) → framesTest domains 0 (replicate 8 zeroFrame) ≡ true
+no-frames : (domains : ℕ) → framesTest domains 0 (replicate 8 freeFrame) ≡ true
 unfolding framesTest emptyFrame emptyPointer emptyCapability allFrom
 no-frames domains = refl
 

@@ -3,7 +3,7 @@ use Prim.Native.Nat.{ℕ, _-_}
 use mathlib.Core.Bool.{false}
 use mathlib.Core.List.{List, []}
 use lib.Dec.{leb}
-use lib.ListN.{getD}
+use lib.ListN.{getD, replicate}
 use Rattle.words.specs.Answer.{if_then_else_}
 use Rattle.words.specs.declared.pointer.Pointer.{Pointer}
 use Rattle.state.specs.declared.record.Capability.{Capability}
@@ -18,6 +18,10 @@ noCapability = record { word = 0; length = 0; segment = 0; source = 0; read = fa
 
 abbrev pub noFrame : Frame
 noFrame = record { capabilities = []; s = noPointer; back = noPointer; count = 0; domain = 0 }
+
+-- a frame that is not in use: nine empty rows
+abbrev pub freeFrame : Frame
+freeFrame = record { capabilities = replicate 9 noCapability; s = noPointer; back = noPointer; count = 0; domain = 0 }
 
 -- how many frames are in use; a depth past eight, which no sound record has, counts as none
 abbrev pub inUse : ℕ → ℕ

@@ -1,8 +1,37 @@
 // The frames of a record.
 ghost use mathlib.Core.Path.{_≡_};
 ghost use Prim.Native.Nat.{_≤_, _<_, _-_};
-ghost use Rattle.state.specs.Record.{inUse, liveFrame};
+ghost use Rattle.state.specs.Record.{freeFrame, inUse, liveFrame};
+use crate::record::Capability;
 use crate::record::Frame;
+use words::pointer::Pointer;
+
+// A frame that is not in use.
+pub fn free_frame() -> Frame
+    ensures { λ r. ⌜ r ≡ freeFrame ⌝ }
+{
+    let none = Capability {
+        word: 0,
+        length: 0,
+        segment: 0,
+        source: 0,
+        read: false,
+        write: false,
+    };
+    let nowhere = Pointer {
+        word: 0,
+        segment: 0,
+        tag: false,
+    };
+    let capabilities = [none; 9];
+    Frame {
+        capabilities,
+        s: nowhere,
+        back: nowhere,
+        count: 0,
+        domain: 0,
+    }
+}
 
 // How many frames are in use; a depth past eight, which no sound record has, counts as none.
 pub fn in_use(depth: u8) -> u8

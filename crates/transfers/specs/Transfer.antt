@@ -14,8 +14,8 @@ use Rattle.transfers.specs.declared.CallAnswer.{CallAnswer}
 use Rattle.transfers.specs.declared.CallAnswer.the-variants as way
 
 -- the gate count and the gate domain of a segment; nothing past the rows
-abbrev pub gatesOf : List ℕ → ℕ → ℕ
-gatesOf gates segment = if ltb segment 16 then getD gates segment 0 else 0
+abbrev pub gateCountOf : List ℕ → ℕ → ℕ
+gateCountOf gates segment = if ltb segment 16 then getD gates segment 0 else 0
 
 abbrev pub gateDomainOf : List ℕ → ℕ → ℕ
 gateDomainOf gatedomains segment = if ltb segment 16 then getD gatedomains segment 0 else 0
@@ -32,7 +32,7 @@ callWay lengths gates rights domain depth p =
     (if has (rightsOf rights domain (p .segment)) flag.Execute then ok true
     else (
     require (has (rightsOf rights domain (p .segment)) flag.Gate) flagMissing >>
-    require (ltb (p .word) (gatesOf gates (p .segment))) notGate >>
+    require (ltb (p .word) (gateCountOf gates (p .segment))) notGate >>
     require (ltb depth 8) noFreeFrame >>
     ok false))
 

@@ -1,6 +1,6 @@
 // The checks of JUMP, and of CALL up to the argument list.
 ghost use mathlib.Core.Path.{_≡_};
-ghost use Rattle.transfers.specs.Transfer.{jumpCheck, callWay, callAnswer, gatesOf};
+ghost use Rattle.transfers.specs.Transfer.{jumpCheck, callWay, callAnswer, gateCountOf};
 use references::flag::Flag;
 use references::statics::static_check;
 use words::pointer::Pointer;
@@ -23,8 +23,8 @@ pub fn jump_check<'a>(lengths: &'a [u16; 16], rights: &'a [u8; 128], domain: u8,
 }
 
 // The gate count of a segment; none past the sixteenth.
-fn gates_of(gates: &[u16; 16], segment: u8) -> u16
-    ensures { λ r. ⌜ r ≡ gatesOf (now (gates .entry)) segment ⌝ }
+fn gate_count_of(gates: &[u16; 16], segment: u8) -> u16
+    ensures { λ r. ⌜ r ≡ gateCountOf (now (gates .entry)) segment ⌝ }
 {
     if 16 <= segment {
         return 0;
@@ -57,7 +57,7 @@ pub fn call_way<'a>(
     if gate != 0 {
         return CallAnswer::Refused(22);
     }
-    if gates_of(gates, p.segment) <= p.word {
+    if gate_count_of(gates, p.segment) <= p.word {
         return CallAnswer::Refused(29);
     }
     if 8 <= depth {

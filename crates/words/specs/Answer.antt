@@ -27,3 +27,8 @@ infix 5 if_then_else_
 abbrev pub require : Bool → ℕ → Answer (Unit {0})
 require true n = ok tt
 require false n = refuse n
+
+-- the number that a call returns: 0, or the refusal
+abbrev pub numberOf : {A : Type 0} → Answer A → ℕ
+numberOf (refuse n) = n
+numberOf (ok a) = 0

@@ -4,8 +4,8 @@ use lib.Dec.{leb, ltb}
 use lib.IntN.{ℤ, pos, negsuc, _+ℤ_, _-ℤ_}
 use Rattle.words.specs.Answer.{Answer, refuse, ok, if_then_else_}
 use Rattle.words.specs.Numbers.{outOfRange}
-use Rattle.words.specs.declared.offset.WordAnswer.{WordAnswer}
-use Rattle.words.specs.declared.offset.WordAnswer.the-variants as variant
+use Rattle.words.specs.declared.offset.WordNumberAnswer.{WordNumberAnswer}
+use Rattle.words.specs.declared.offset.WordNumberAnswer.the-variants as variant
 
 -- twelve bits in two's complement
 unfoldable pub signedOf : ℕ → ℤ
@@ -26,6 +26,6 @@ literalOf (pos n) = n % 2 ^ 32
 literalOf (negsuc n) = 2 ^ 32 - 1 - n % 2 ^ 32
 
 -- what the code's answer stands for
-abbrev pub wordAnswer : WordAnswer → Answer ℕ
-wordAnswer (variant.Word n) = ok n
-wordAnswer (variant.Refused n) = refuse n
+abbrev pub wordNumberAnswer : WordNumberAnswer → Answer ℕ
+wordNumberAnswer (variant.Word n) = ok n
+wordNumberAnswer (variant.Refused n) = refuse n

@@ -1,43 +1,43 @@
 // The signed offset of an instruction, and what is added up with it.
 ghost use mathlib.Core.Path.{_≡_};
 ghost use lib.IntN.{pos};
-ghost use Rattle.words.specs.Offset.{displacedOf, literalOf, wordAnswer};
+ghost use Rattle.words.specs.Offset.{displacedOf, literalOf, wordNumberAnswer};
 
 // What a sum gives: a word number 0-4,095, or the refusal 23.
-pub enum WordAnswer {
+pub enum WordNumberAnswer {
     Word(u16),
     Refused(u8),
 }
 
 // A word number plus an offset.
-pub fn displace(word: u16, offset: i32) -> WordAnswer
-    ensures { λ r. ⌜ wordAnswer r ≡ displacedOf word offset ⌝ }
+pub fn displace(word: u16, offset: i32) -> WordNumberAnswer
+    ensures { λ r. ⌜ wordNumberAnswer r ≡ displacedOf word offset ⌝ }
 {
     if offset < -65535 {
-        return WordAnswer::Refused(23);
+        return WordNumberAnswer::Refused(23);
     }
     if 4095 < offset {
-        return WordAnswer::Refused(23);
+        return WordNumberAnswer::Refused(23);
     }
     let at = word as i32 + offset;
     if at < 0 {
-        return WordAnswer::Refused(23);
+        return WordNumberAnswer::Refused(23);
     }
     if 4095 < at {
-        return WordAnswer::Refused(23);
+        return WordNumberAnswer::Refused(23);
     }
-    WordAnswer::Word(at as u16)
+    WordNumberAnswer::Word(at as u16)
 }
 
 // A word number plus a count.
-pub fn climb(word: u16, count: u16) -> WordAnswer
-    ensures { λ r. ⌜ wordAnswer r ≡ displacedOf word (pos count) ⌝ }
+pub fn climb(word: u16, count: u16) -> WordNumberAnswer
+    ensures { λ r. ⌜ wordNumberAnswer r ≡ displacedOf word (pos count) ⌝ }
 {
     let sum = word as u32 + count as u32;
     if 4095 < sum {
-        return WordAnswer::Refused(23);
+        return WordNumberAnswer::Refused(23);
     }
-    WordAnswer::Word(sum as u16)
+    WordNumberAnswer::Word(sum as u16)
 }
 
 // An offset modulo 2^32.

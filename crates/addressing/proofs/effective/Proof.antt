@@ -2,7 +2,7 @@
 use borrow.Author.Needs.{needs}
 use mathlib.Core.Path.{_≡_}
 use mir.Syntax.{w32}
-use Rattle.words.specs.Offset.{displacedOf, wordAnswer}
+use Rattle.words.specs.Offset.{displacedOf, wordNumberAnswer}
 use mir.Val.{SFits}
 use mir.ValLaws.{toZ-ofZ}
 use Rattle.addressing.specs.Effective.{effectiveOf, displacedBy}
@@ -29,7 +29,7 @@ told : (c : tie.After-struct-told) → SFits w32 (c .before .before .before .arg
 told c = record { sfits = c .struct-told .given .0 .1 }
 
 -- what displace was asked
-asked : (c : tie.After-displace) → wordAnswer (c .displace .result) ≡ displacedOf (c .before .before .pointer-at .result .word) (c .before .before .before .before .args .i .offset)
+asked : (c : tie.After-displace) → wordNumberAnswer (c .displace .result) ≡ displacedOf (c .before .before .pointer-at .result .word) (c .before .before .before .before .args .i .offset)
 asked c = rw (toZ-ofZ w32 _ (told (c .before))) at (c .displace .ensures)
 
 returns : tie.Need-returns

@@ -10,13 +10,13 @@ stack-of-requires c κs = search needs
 array-set-from-pointers : tie.Need-array-set-from-pointers
 array-set-from-pointers c = search needs
 
-zero-frame-requires : tie.Need-zero-frame-requires
-zero-frame-requires c κs = search needs
+free-frame-requires : tie.Need-free-frame-requires
+free-frame-requires c κs = search needs
 
 returns : tie.Need-returns
 unfolding freshOf
-returns c = rw (c .before .stack-of .ensures, c .zero-frame .ensures)
+returns c = rw (c .before .stack-of .ensures, c .free-frame .ensures)
 
 pub fresh-spec : {M : Type 1} → statement M
 fresh-spec =
-    tie.close (tie.spec stack-of-requires array-set-from-pointers zero-frame-requires returns)
+    tie.close (tie.spec stack-of-requires array-set-from-pointers free-frame-requires returns)

@@ -4,14 +4,14 @@ use borrow.Author.Tests.{le-leb, lt-leb}
 use Rattle.state.specs.declared.record.Machine.{Machine}
 use Rattle.fresh.specs.Fresh.{freshOf}
 use Rattle.image_format.specs.Image.{imageOf, layoutOf}
-use Rattle.image_reader.specs.Reader.{readOf, machineAfter, memoryAfter}
+use Rattle.image_reader.specs.Reader.{readImage, machineAfter, memoryAfter}
 use Rattle.image_reader.proofs.Stores.{Mapped, mapped-facts, mapped-refused}
 use borrow.Author.Needs.{needs}
 use Rattle.image_reader.proofs.read.Statement.{statement}
 use Rattle.image_reader.proofs.read.Tie as tie
 
 returns : tie.Need-returns
-unfolding readOf machineAfter memoryAfter
+unfolding readImage machineAfter memoryAfter
 returns c = simp (lt-leb _ _ (c .if1 .taken)) (refl, refl)
 
 judge-requires : tie.Need-judge-requires
@@ -24,8 +24,8 @@ enum-told : tie.Need-enum-told
 enum-told c = search needs
 
 -- with room in the memory, the answer is the image's
-with-room : (c : tie.Else1) → let a = c .before .before .before .args in readOf (a .image .now) (a .words .now) ≡ imageOf (a .image .now)
-unfolding readOf
+with-room : (c : tie.Else1) → let a = c .before .before .before .args in readImage (a .image .now) (a .words .now) ≡ imageOf (a .image .now)
+unfolding readImage
 with-room c = simp (le-leb _ _ (c .if1 .left))
 
 -- the image that was passed

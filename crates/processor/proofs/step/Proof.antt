@@ -2,7 +2,7 @@
 use mathlib.Core.Path.{_≡_, sym, ap, _∙_}
 use borrow.Author.Needs.{needs}
 use Rattle.processor.specs.Calls.{runCall}
-use Rattle.processor.specs.Steps.{answer}
+use Rattle.processor.specs.Steps.{asStep}
 use Rattle.processor.proofs.Steps.{call-one}
 use Rattle.processor.proofs.step.Statement.{statement}
 use Rattle.processor.proofs.step.Tie as tie
@@ -24,7 +24,7 @@ unfolding runCall
 returns c =
     let n = c .before in
     let r = n .before .before .before .before in
-    simp (c .halts .ensures, n .number-of .ensures) (ap answer (r .call .ensures) ∙ call-one _ _)
+    simp (c .halts .ensures, n .number-of .ensures) (ap asStep (r .call .ensures) ∙ call-one _ _)
 
 pub step-spec : {M : Type 1} → statement M
 step-spec =

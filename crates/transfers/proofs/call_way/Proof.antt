@@ -5,7 +5,7 @@ use mathlib.Core.Path.{_≡_, sym, _∙_}
 use mathlib.Core.Bool.{Bool, false}
 use borrow.Author.Tests.{lt-ltb, le-ltb}
 use Rattle.words.specs.Answer.{Answer, ok, _>>_, require}
-use Rattle.transfers.specs.Transfer.{callWay, gatesOf}
+use Rattle.transfers.specs.Transfer.{callWay, gateCountOf}
 use Rattle.transfers.proofs.Transfers.{way-tagged, way-inside, way-absent, way-barred, way-gate}
 use lib.Dec.{ltb}
 use Rattle.transfers.proofs.call_way.Statement.{statement}
@@ -36,7 +36,7 @@ returns-4 c =
 
 -- with G the rest of the way is the gate and the free frame
 gated : (c : tie.Else4) → let a = c .before .before .before .before .before .before .args in
-    callWay (a .lengths .now) (a .gates .now) (a .rights .now) (a .domain) (a .depth) (a .p) ≡ (require (ltb (a .p .word) (gatesOf (a .gates .now) (a .p .segment))) 29 >> require (ltb (a .depth) 8) 31 >> ok false)
+    callWay (a .lengths .now) (a .gates .now) (a .rights .now) (a .domain) (a .depth) (a .p) ≡ (require (ltb (a .p .word) (gateCountOf (a .gates .now) (a .p .segment))) 29 >> require (ltb (a .depth) 8) 31 >> ok false)
 gated c =
     let g = c .before in
     let e = g .before in
@@ -44,25 +44,25 @@ gated c =
     let a = s .before .before .args in
     way-gate (a .lengths .now) (a .gates .now) (a .rights .now) (a .domain) (a .depth) (a .p) (s .before .if1 .left) (λ z. e .before .if2 .left (s .static-check .ensures ∙ z)) (λ z. e .if3 .left (s .static-check .ensures ∙ z)) (sym (g .static-check2 .ensures) ∙ c .if4 .left)
 
-gates-of-requires : tie.Need-gates-of-requires
-gates-of-requires c κs = search needs
+gate-count-of-requires : tie.Need-gate-count-of-requires
+gate-count-of-requires c κs = search needs
 
 returns-5 : tie.Need-returns-5
 returns-5 c =
     let h = c .before .before in
-    sym (gated (h .before) ∙ simp (← h .gates-of .ensures, le-ltb _ _ (c .if5 .taken)))
+    sym (gated (h .before) ∙ simp (← h .gate-count-of .ensures, le-ltb _ _ (c .if5 .taken)))
 
 returns-6 : tie.Need-returns-6
 returns-6 c =
     let i = c .before in
     let h = i .before .before in
-    sym (gated (h .before) ∙ simp (← h .gates-of .ensures, lt-ltb _ _ (i .if5 .left), le-ltb _ _ (c .if6 .taken)))
+    sym (gated (h .before) ∙ simp (← h .gate-count-of .ensures, lt-ltb _ _ (i .if5 .left), le-ltb _ _ (c .if6 .taken)))
 
 returns-7 : tie.Need-returns-7
 returns-7 c =
     let i = c .before in
     let h = i .before .before in
-    sym (gated (h .before) ∙ simp (← h .gates-of .ensures, lt-ltb _ _ (i .if5 .left), lt-ltb _ _ (c .if6 .left)))
+    sym (gated (h .before) ∙ simp (← h .gate-count-of .ensures, lt-ltb _ _ (i .if5 .left), lt-ltb _ _ (c .if6 .left)))
 
 pub call-way-spec : {M : Type 1} → statement M
 call-way-spec =
@@ -74,7 +74,7 @@ call-way-spec =
     returns-3
     static-check-requires-2
     returns-4
-    gates-of-requires
+    gate-count-of-requires
     returns-5
     returns-6
     returns-7)

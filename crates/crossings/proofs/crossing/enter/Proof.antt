@@ -1,5 +1,5 @@
 use borrow.Author.Needs.{needs}
-use mathlib.Core.Path.{_≡_, sym, _∙_}
+use mathlib.Core.Path.{_≡_}
 use Rattle.state.specs.Record.{noPointer}
 use Rattle.memory.specs.Reader.{readOf}
 use Rattle.arguments.specs.ArgumentList.{frameOf, frameAnswer}

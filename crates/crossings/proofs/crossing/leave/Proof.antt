@@ -1,12 +1,11 @@
 use borrow.Author.Needs.{needs}
-use mathlib.Core.Path.{_≡_, sym, _∙_}
 use borrow.Author.Tests.{eq-eqb, ne-eqb}
 use Rattle.crossings.proofs.crossing.leave.Statement.{statement}
 use Rattle.crossings.proofs.crossing.leave.Tie as tie
 use Rattle.crossings.proofs.crossing.leave.Reads as reads
 use Rattle.crossings.proofs.crossing.leave.Lts as lts
 use Rattle.crossings.proofs.crossing.at_place.Reads as at-place-reads
-use Rattle.crossings.proofs.crossing.free_frame.Reads as free-frame-reads
+use Rattle.state.proofs.frames.free_frame.Reads as free-frame-reads
 use Rattle.crossings.proofs.crossing.leave_check.Reads as leave-check-reads
 use Rattle.pointer_registers.proofs.pointer_at.Reads as pointer-at-reads
 use Rattle.pointer_registers.proofs.stack_of.Reads as stack-of-reads

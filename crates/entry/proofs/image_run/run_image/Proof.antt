@@ -2,7 +2,7 @@
 use mathlib.Core.Path.{_≡_, ap, _∙_}
 use borrow.Author.Needs.{needs}
 use lib.ListN.{replicate}
-use Rattle.image_reader.specs.Reader.{readOf, machineAfter}
+use Rattle.image_reader.specs.Reader.{readImage, machineAfter}
 use Rattle.entry.specs.ImageRun.{finalOf, emptyMachine}
 use Rattle.entry.proofs.ImageRuns.{refused-run, passed-run}
 use Rattle.entry.proofs.image_run.run_image.Statement.{statement}
@@ -19,7 +19,7 @@ read-requires c κs = search needs
 
 -- what the read gave
 read-is : (c : tie.After-read) → let e = c .before .before in
-    c .read .result ≡ machineAfter emptyMachine (readOf (e .before .before .args .image .now) (replicate 8192 0))
+    c .read .result ≡ machineAfter emptyMachine (readImage (e .before .before .args .image .now) (replicate 8192 0))
 read-is c = rw (c .before .before .empty .ensures) at (c .read .ensures .0)
 
 returns : tie.Need-returns

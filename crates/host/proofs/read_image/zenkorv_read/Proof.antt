@@ -2,7 +2,7 @@
 use mathlib.Core.Path.{ap, _∙_}
 use borrow.Author.Needs.{needs}
 use Rattle.state.specs.declared.record.Machine.{Machine}
-use Rattle.image_reader.specs.Reader.{readOf, machineAfter}
+use Rattle.image_reader.specs.Reader.{readImage, machineAfter}
 use Rattle.host.proofs.Reading.{without-room, with-room}
 use Rattle.host.proofs.read_image.zenkorv_read.Statement.{statement}
 use Rattle.host.proofs.read_image.zenkorv_read.Tie as tie
@@ -33,7 +33,7 @@ returns-2 c =
     let e = o .before .before in
     let a = e .before .before .before .before .args in
     with-room (a .image .now) (a .bytes .now) (a .words .now) (e .if1 .left) _ _ _
-    (r .read .ensures .0 ∙ ap (λ (m : Machine). machineAfter m (readOf (a .image .now) (a .words .now))) (o .record-of .ensures)) (b .bytes-of .ensures .1) (r .read .ensures .1)
+    (r .read .ensures .0 ∙ ap (λ (m : Machine). machineAfter m (readImage (a .image .now) (a .words .now))) (o .record-of .ensures)) (b .bytes-of .ensures .1) (r .read .ensures .1)
 
 pub zenkorv-read-spec : {M : Type 1} → statement M
 zenkorv-read-spec =

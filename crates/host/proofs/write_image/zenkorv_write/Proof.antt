@@ -3,7 +3,7 @@ use native.Mathlib.Omega.{arith}
 use mathlib.Core.Path.{_≡_, ap, _∙_}
 use borrow.Author.Needs.{needs}
 use Rattle.state.specs.declared.record.Machine.{Machine}
-use Rattle.image_writer.specs.Writer.{writeOf, writtenOf, outputAfter}
+use Rattle.image_writer.specs.Writer.{writeImage, writeResult, outputAfter}
 use Rattle.host.specs.Images.{imageWritten, outputAfterWrite}
 use Rattle.host.proofs.Writing.{code-accepted, code-refused, written-short}
 use Rattle.host.proofs.write_image.zenkorv_write.Statement.{statement}
@@ -16,17 +16,17 @@ write-requires : tie.Need-write-requires
 write-requires c κs = search needs
 
 -- what the writer gives of the record that bytes hold
-written : (w : tie.After-write) → let a = w .before .before .before .before .before .before .args in w .write .result ≡ writtenOf (imageWritten (a .bytes .now) (a .words .now) (a .output .now))
+written : (w : tie.After-write) → let a = w .before .before .before .before .before .before .args in w .write .result ≡ writeResult (imageWritten (a .bytes .now) (a .words .now) (a .output .now))
 written w =
     let a = w .before .before .before .before .before .before .args in
-    w .write .ensures .0 ∙ ap (λ (m : Machine). writtenOf (writeOf m (a .words .now) (a .output .now))) (w .before .before .record-of .ensures)
+    w .write .ensures .0 ∙ ap (λ (m : Machine). writeResult (writeImage m (a .words .now) (a .output .now))) (w .before .before .record-of .ensures)
 
 -- what the output then holds
 output : (w : tie.After-write) → let a = w .before .before .before .before .before .before .args in w .write .last .1 .1 .0 ≡ outputAfterWrite (a .bytes .now) (a .words .now) (a .output .now)
 unfolding outputAfterWrite
 output w =
     let a = w .before .before .before .before .before .before .args in
-    w .write .ensures .1 ∙ ap (λ (m : Machine). outputAfter (a .output .now) (writeOf m (a .words .now) (a .output .now))) (w .before .before .record-of .ensures)
+    w .write .ensures .1 ∙ ap (λ (m : Machine). outputAfter (a .output .now) (writeImage m (a .words .now) (a .output .now))) (w .before .before .record-of .ensures)
 
 cast-result : tie.Need-cast-result
 cast-result c =

@@ -1,7 +1,7 @@
 -- `report::lines::put_line` meets its contract.
 use native.Mathlib.Omega.{arith}
 use mathlib.Core.List.{[], _∷_}
-use Rattle.report.specs.Text.{field}
+use Rattle.report.specs.Text.{labelled}
 use Rattle.report.proofs.Puts.{puts-more}
 use borrow.Author.Needs.{needs}
 use Rattle.report.proofs.lines.put_line.Statement.{statement}
@@ -26,7 +26,7 @@ returns c =
     let s = f .before .before .before .before in
     let a = s .args in
     let e = f .put-field .ensures in
-    let p = puts-more (a .output .now) _ _ (a .at) _ _ (field (a .label .now) (a .n)) (10 ∷ []) (e .0, e .1 .0) (t .put-text .ensures) (omega (arith, s .pre, e .0, e .1 .1)) in
+    let p = puts-more (a .output .now) _ _ (a .at) _ _ (labelled (a .label .now) (a .n)) (10 ∷ []) (e .0, e .1 .0) (t .put-text .ensures) (omega (arith, s .pre, e .0, e .1 .1)) in
     (p .0, (p .1, omega (arith, t .put-text .ensures .0, e .1 .1)))
 
 pub put-line-spec : {M : Type 1} → statement M

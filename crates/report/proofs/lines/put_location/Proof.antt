@@ -1,7 +1,7 @@
 -- `report::lines::put_location` meets its contract.
 use native.Mathlib.Omega.{arith}
 use mathlib.Core.List.{[], _∷_, _++_}
-use Rattle.report.specs.Text.{text, field}
+use Rattle.report.specs.Text.{text, labelled}
 use Rattle.report.proofs.Puts.{puts-more}
 use borrow.Author.Needs.{needs}
 use Rattle.report.proofs.lines.put_location.Statement.{statement}
@@ -35,8 +35,8 @@ returns c =
     let f = g .before .before .before .before .before in
     let s = f .before .before .before .before in
     let a = s .args in
-    let first = field (text "at ") (a .segment) in
-    let second = field (32 ∷ []) (a .word) in
+    let first = labelled (text "at ") (a .segment) in
+    let second = labelled (32 ∷ []) (a .word) in
     let x = f .put-field .ensures in
     let y = g .put-field2 .ensures in
     let p = puts-more (a .output .now) _ _ (a .at) _ _ first second (x .0, x .1 .0) (y .0, y .1 .0) (omega (arith, s .pre, x .0, x .1 .1)) in

@@ -1,7 +1,7 @@
 -- `report::lines::put_rest` meets its contract.
 use native.Mathlib.Omega.{arith}
 use mathlib.Core.List.{[], _∷_, _++_}
-use Rattle.report.specs.Text.{text, field, line}
+use Rattle.report.specs.Text.{text, labelled, line}
 use Rattle.report.specs.Report.{restText}
 use Rattle.report.proofs.Puts.{puts-more}
 use borrow.Author.Needs.{needs}
@@ -45,10 +45,10 @@ returns c =
     let s = f .before .before .before .before in
     let a = s .args in
     let out = a .output .now in
-    let first = line (field (text "count ") (a .count)) in
-    let second = line (field (text "domain ") (a .r .domain)) in
-    let third = line (field (text "at ") (a .r .segment) ++ field (32 ∷ []) (a .r .word)) in
-    let fourth = line (field (text "a ") (a .r .a)) in
+    let first = line (labelled (text "count ") (a .count)) in
+    let second = line (labelled (text "domain ") (a .r .domain)) in
+    let third = line (labelled (text "at ") (a .r .segment) ++ labelled (32 ∷ []) (a .r .word)) in
+    let fourth = line (labelled (text "a ") (a .r .a)) in
     let x = f .put-line .ensures in
     let y = m .put-line2 .ensures in
     let z = l .put-location .ensures in
