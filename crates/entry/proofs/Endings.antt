@@ -11,6 +11,7 @@ use Rattle.runs.specs.Run.{Ending, halted, spent, crossed, faulted, refused, af
 use Rattle.image_format.specs.Image.{Image, imageOf}
 use Rattle.entry.specs.ImageRun.{Final, finalOf, machineRun, imageRun}
 use Rattle.entry.specs.Entry.{endingByte}
+use Rattle.entry.specs.Statements.{EndingListed}
 
 abbrev pub Listed : Ending → Type 0
 Listed halted = Unit {0}
@@ -52,5 +53,5 @@ byte-most (faulted n) h = omega arith
 byte-most (refused n) h = absurd h
 
 -- the ending's byte is one of the three listed
-pub ending-listed : (limit : ℕ) (bytes : List ℕ) (r : Final) → imageRun limit bytes ≡ ok r → endingByte (r .ending) ≤ 2
+pub ending-listed : EndingListed
 ending-listed limit bytes r e = byte-most (r .ending) (image-ends limit bytes r e)

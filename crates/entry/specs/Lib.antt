@@ -1,2 +1,3 @@
 pub mod ImageRun
 pub mod Entry
+pub mod Statements

@@ -1,5 +1,5 @@
 -- Answers whose refusals are numbers of faults, 21-32.
-use Prim.Native.Nat.{ℕ, _≤_}
+use Prim.Native.Nat.{ℕ}
 use native.Mathlib.Omega.{arith}
 use mathlib.Core.Bool.{Bool, true, false}
 use mathlib.Core.Path.{_≡_, refl, subst}
@@ -7,9 +7,7 @@ use borrow.Author.Tests.{eqb-false}
 use lib.Dec.{eqb}
 use Rattle.words.specs.Answer.{Answer, refuse, ok, _>>=_, _>>_, require, if_then_else_}
 use Rattle.references.specs.Reference.{accept}
-
-abbrev pub Fault : ℕ → Type 0
-Fault n = (21 ≤ n) × (n ≤ 32)
+use Rattle.executions.specs.Statements.{Fault}
 
 -- an answer's refusal, and a verdict that is not 0
 abbrev pub Fails : {A : Type 0} → Answer A → Type 0

@@ -9,24 +9,21 @@ use Rattle.words.specs.Answer.{Answer, refuse, ok, if_then_else_}
 use Rattle.state.specs.declared.record.Machine.{Machine}
 use Rattle.runs.specs.Step.{Completion, stopped, proceeded, crossing, Done, execute}
 use Rattle.runs.specs.Run.{Ran, ran, Ending, halted, spent, crossed, faulted, refused, after, afterCompletion, runFrom, judged, calledOf}
-use Rattle.processor.specs.Calls.{runOf, stretchOf, runCall, stretchCall, Step, stepped, stepCall}
-
--- a step with this number that changed nothing
-abbrev pub nothing : Machine → List ℕ → ℕ → Step
-nothing m words n = record { machine = m; words = words; number = n; halted = false }
+use Rattle.processor.specs.Calls.{runOf, stretchOf, runCall, stretchCall, stepped, stepCall}
+use Rattle.executions.specs.Statements.{idle, FaultLeaves, RunFaulted, RefusedLeaves, RefusedStretchLeaves}
 
 -- a step whose number is not 0 left record and words, and did not halt
-pub stepped-leaves : (m : Machine) (words : List ℕ) (e : Answer Done) → (stepped m words e .number ≡ 0 → ⊥) → stepped m words e ≡ nothing m words (stepped m words e .number)
+pub stepped-leaves : (m : Machine) (words : List ℕ) (e : Answer Done) → (stepped m words e .number ≡ 0 → ⊥) → stepped m words e ≡ idle m words (stepped m words e .number)
 stepped-leaves m words (refuse n) h = refl
 stepped-leaves m words (ok d) h = absurd (h refl)
 
-module _ (m : Machine) (words : List ℕ) where
-  pub fault-leaves : (stepCall m words .number ≡ 0 → ⊥) → stepCall m words ≡ nothing m words (stepCall m words .number)
-  unfolding stepCall
-  fault-leaves h = stepped-leaves m words (if eqb (judged m words) 0 then execute m words else refuse (judged m words)) h
+pub fault-leaves : FaultLeaves
+unfolding stepCall
+fault-leaves m words h = stepped-leaves m words (if eqb (judged m words) 0 then execute m words else refuse (judged m words)) h
 
+module _ (m : Machine) (words : List ℕ) where
   -- a refused step, run and stretch
-  pub refused-step : (judged m words ≡ 0 → ⊥) → stepCall m words ≡ nothing m words (judged m words)
+  pub refused-step : (judged m words ≡ 0 → ⊥) → stepCall m words ≡ idle m words (judged m words)
   unfolding stepCall
   refused-step h = simp (ne-eqb _ _ h)
 
@@ -73,18 +70,13 @@ unfolding runFrom
 run-ends stretch zero n m words = tt
 run-ends stretch (suc k) n m words = step-ends stretch k n m words (run-ends stretch k (n + 1)) (execute m words) refl
 
-module _ (stretch : Bool) (k n : ℕ) (m : Machine) (words : List ℕ) where
-  abbrev r : Ran
-  r = runFrom stretch k n m words
+pub run-faulted : RunFaulted
+run-faulted stretch k n m words f e = rw e at (run-ends stretch k n m words)
 
-  -- a faulted run leaves record and words as they were before the instruction that gives the fault
-  pub run-faulted : (f : ℕ) → r .ending ≡ faulted f → execute (r .machine) (r .words) ≡ refuse f
-  run-faulted f e = rw e at (run-ends stretch k n m words)
+pub run-accepted : (stretch : Bool) (k n : ℕ) (m : Machine) (words : List ℕ) (f : ℕ) → runFrom stretch k n m words .ending ≡ refused f → ⊥
+run-accepted stretch k n m words f e = rw e at (run-ends stretch k n m words)
 
-  pub run-accepted : (f : ℕ) → r .ending ≡ refused f → ⊥
-  run-accepted f e = rw e at (run-ends stretch k n m words)
-
--- a call whose ending is refused left record and words, and counted nothing
+-- a call whose ending is refused left record and words, and counted idle
 refused-ending : (run : Machine → List ℕ → Ran) (m : Machine) (words : List ℕ) (n : ℕ) → (run m words .ending ≡ refused n → ⊥)
     → calledOf run m words .ending ≡ refused n → calledOf run m words ≡ ran m words 0 (refused n)
 unfolding calledOf
@@ -95,11 +87,10 @@ refused-ending run m words n h e = by (eqb (judged m words) 0) e
     by true e = absurd (h e)
     by false e = ap (ran m words 0) e
 
-module _ (limit : ℕ) (m : Machine) (words : List ℕ) (n : ℕ) where
-  pub refused-leaves : runCall limit m words .ending ≡ refused n → runCall limit m words ≡ ran m words 0 (refused n)
-  unfolding runCall
-  refused-leaves e = refused-ending (runOf limit) m words n (run-accepted false limit 0 m words n) e
+pub refused-leaves : RefusedLeaves
+unfolding runCall
+refused-leaves limit m words n e = refused-ending (runOf limit) m words n (run-accepted false limit 0 m words n) e
 
-  pub refused-stretch-leaves : stretchCall limit m words .ending ≡ refused n → stretchCall limit m words ≡ ran m words 0 (refused n)
-  unfolding stretchCall
-  refused-stretch-leaves e = refused-ending (stretchOf limit) m words n (run-accepted true limit 0 m words n) e
+pub refused-stretch-leaves : RefusedStretchLeaves
+unfolding stretchCall
+refused-stretch-leaves limit m words n e = refused-ending (stretchOf limit) m words n (run-accepted true limit 0 m words n) e

@@ -18,13 +18,14 @@ use Rattle.memory.specs.Reader.{Reader, readWord, fetch}
 use Rattle.instructions.specs.Plan.{Plan, halt, move, store, enter, leave}
 use Rattle.crossings.specs.Crossing.{left, samePlace, leaveCheck, enterOf, leaveOf}
 use Rattle.runs.specs.Step.{Act, stop, proceed, put, cross, resolve, decide, commit, execute}
-use Rattle.runs.specs.Run.{faulted, runFrom, judged}
+use Rattle.runs.specs.Run.{runFrom, judged}
 use Rattle.processor.specs.Calls.{stepped, stepCall}
 use Rattle.executions.proofs.Faults.{run-faulted}
 use Rattle.executions.proofs.Parts.{live, planned, frameFor, leaveNumber}
-use Rattle.executions.proofs.Fails.{Fault, Fails, judged-if, fails-accept, refused, fails-bind}
+use Rattle.executions.proofs.Fails.{Fails, judged-if, fails-accept, refused, fails-bind}
 use Rattle.executions.proofs.CheckNumbers.{static-judged, check-fails, read-fails, fetch-fails}
 use Rattle.executions.proofs.PlanNumbers.{plan-fails, frame-fails}
+use Rattle.executions.specs.Statements.{FaultNumber, RunNumber}
 
 -- a step of any machine
 module _ (m : Machine) (words : List ℕ) where
@@ -65,19 +66,18 @@ module _ (m : Machine) (words : List ℕ) where
   commit-fails (put p v) = fails-bind (check m access.Write p) _ (check-fails m access.Write p) (λ i. tt)
   commit-fails (cross n) = tt
 
-  pub fault-number : (n : ℕ) → execute m words ≡ refuse n → Fault n
-  unfolding execute
-  fault-number n e = refused _ n (fails-bind (decide m (fetch m words) reader) (commit m words) decide-fails commit-fails) e
+pub fault-number : FaultNumber
+unfolding execute
+fault-number m words n e = refused _ n (fails-bind (decide m (fetch m words) (readWord m words)) (commit m words) (decide-fails m words) (commit-fails m words)) e
 
-  -- a step whose number is 0 did not fault
-  pub zero-completes : stepCall m words .number ≡ 0 → (n : ℕ) → execute m words ≡ refuse n → ⊥
-  unfolding stepCall
-  zero-completes z n e = by (eqb (judged m words) 0) refl (rw e at z)
-    where
-      by : (t : Bool) → eqb (judged m words) 0 ≡ t → stepped m words (if t then refuse n else refuse (judged m words)) .number ≡ 0 → ⊥
-      by true q z = let f = fault-number n e in omega (arith, f .0, z)
-      by false q z = eqb-false (judged m words) 0 q z
+-- a step whose number is 0 did not fault
+pub zero-completes : (m : Machine) (words : List ℕ) → stepCall m words .number ≡ 0 → (n : ℕ) → execute m words ≡ refuse n → ⊥
+unfolding stepCall
+zero-completes m words z n e = by (eqb (judged m words) 0) refl (rw e at z)
+  where
+    by : (t : Bool) → eqb (judged m words) 0 ≡ t → stepped m words (if t then refuse n else refuse (judged m words)) .number ≡ 0 → ⊥
+    by true q z = let f = fault-number m words n e in omega (arith, f .0, z)
+    by false q z = eqb-false (judged m words) 0 q z
 
--- the fault that a run ends with
-pub run-number : (stretch : Bool) (k n : ℕ) (m : Machine) (words : List ℕ) (f : ℕ) → runFrom stretch k n m words .ending ≡ faulted f → Fault f
+pub run-number : RunNumber
 run-number stretch k n m words f e = fault-number (runFrom stretch k n m words .machine) (runFrom stretch k n m words .words) f (run-faulted stretch k n m words f e)

@@ -1,15 +1,12 @@
 -- A step and a run leave a sound machine sound.
 use Prim.Native.Nat.{ℕ, _+_}
 use native.Mathlib.Omega.{arith}
-use mathlib.Core.Bool.{Bool, true}
 use mathlib.Core.List.{List}
 use mathlib.Core.Path.{_≡_}
-use lib.ListN.{length}
 use Rattle.words.specs.Answer.{Answer, ok}
 use Rattle.words.specs.declared.pointer.Pointer.{Pointer}
 use Rattle.state.specs.declared.record.Machine.{Machine}
 use Rattle.state.specs.Bases.{basesOf}
-use Rattle.soundness.specs.Sound.{soundTest}
 use Rattle.soundness.proofs.Facts.{Sound, sound-facts, facts-sound}
 use Rattle.references.specs.declared.flag.Flag.the-variants as flag
 use Rattle.references.specs.declared.flag.Access.the-variants as access
@@ -21,12 +18,12 @@ use Rattle.memory.specs.Reader.{Reader, readWord, fetch, fetchOf}
 use Rattle.instructions.specs.Plan.{Plan, halt, move, store, enter, leave}
 use Rattle.crossings.specs.Crossing.{enterOf, leaveOf}
 use Rattle.runs.specs.Step.{Act, stop, proceed, put, cross, Done, movedTo, resolve, decide, commit, execute}
-use Rattle.runs.specs.Run.{runFrom}
 use Rattle.executions.proofs.Says.{Says, said, says-bind, says-then, says-accept}
 use Rattle.executions.proofs.Runs.{run-keeps}
 use Rattle.executions.proofs.Parts.{planned}
 use Rattle.executions.proofs.Plans.{Placed, PlanSound, plan-sound}
 use Rattle.executions.proofs.Crossings.{Whole, stack-most, enter-whole, leave-whole}
+use Rattle.executions.specs.Statements.{SoundRecord, StepSound, RunSound}
 
 module _ (m : Machine) (w : Whole m) where
   abbrev s : Sound m
@@ -108,18 +105,14 @@ module _ (m : Machine) (w : Whole m) where
       said WholeDone _ d
       (says-bind ActSound WholeDone (decide m (fetch m words) (readWord m words)) (commit m words) (decide-sound (fetch m words) (readWord m words) (fetch-on words)) (commit-sound words)) e
 
-abbrev Good : Machine → Type 0
-Good m = (soundTest m ≡ true) × (length (m .frames) ≡ 8)
-
-good : (m : Machine) → Whole m → Good m
+good : (m : Machine) → Whole m → SoundRecord m
 good m w = (facts-sound m (w .sound), w .room)
 
-whole : (m : Machine) → Good m → Whole m
+whole : (m : Machine) → SoundRecord m → Whole m
 whole m g = record { sound = sound-facts m (g .0); room = g .1 }
 
-module _ (m : Machine) (words : List ℕ) (e : soundTest m ≡ true) (room : length (m .frames) ≡ 8) where
-  pub step-sound : (d : Done) → execute m words ≡ ok d → (soundTest (d .machine) ≡ true) × (length (d .machine .frames) ≡ 8)
-  step-sound d q = good (d .machine) (step-whole m (whole m (e, room)) words d q)
+pub step-sound : StepSound
+step-sound m words s d e = good (d .machine) (step-whole m (whole m s) words d e)
 
-  pub run-sound : (stretch : Bool) (k n : ℕ) → (soundTest (runFrom stretch k n m words .machine) ≡ true) × (length (runFrom stretch k n m words .machine .frames) ≡ 8)
-  run-sound stretch k n = good _ (run-keeps (λ x now. Whole x) (λ x now d q h. step-whole x h now d q) stretch k n m words (whole m (e, room)))
+pub run-sound : RunSound
+run-sound m words s stretch k n = good _ (run-keeps (λ x now. Whole x) (λ x now d q h. step-whole x h now d q) stretch k n m words (whole m s))

@@ -9,6 +9,7 @@ use Rattle.state.specs.declared.record.Machine.{Machine}
 use Rattle.runs.specs.Step.{Completion, stopped, proceeded, crossing, Done, execute}
 use Rattle.runs.specs.Run.{Ran, Ending, halted, spent, crossed, faulted, refused, after, afterCompletion, runFrom}
 use Rattle.processor.specs.Steps.{afterStretch}
+use Rattle.executions.specs.Statements.{RunStretches, CountMost, CountSpent}
 
 module _ (k n : ℕ) where
   abbrev Parted : Machine → List ℕ → Type 0
@@ -27,7 +28,7 @@ module _ (k n : ℕ) where
   parted m words (refuse f) h = refl
   parted m words (ok d) h = event-parted (d .machine) (d .words) (d .event) (h (d .machine) (d .words))
 
-pub run-stretches : (k n : ℕ) (m : Machine) (words : List ℕ) → runFrom false k n m words ≡ afterStretch (n + k) (runFrom true k n m words)
+pub run-stretches : RunStretches
 unfolding runFrom afterStretch
 run-stretches zero n m words = refl
 run-stretches (suc k) n m words = parted k n m words (execute m words) (run-stretches k (n + 1))
@@ -77,9 +78,8 @@ unfolding runFrom
 counted stretch zero n m words = record { least = omega arith; most = omega arith; spent = λ s. omega arith }
 counted stretch (suc k) n m words = counted-after stretch k n m words (execute m words) (counted stretch k (n + 1))
 
-module _ (stretch : Bool) (k n : ℕ) (m : Machine) (words : List ℕ) where
-  pub count-most : (n ≤ runFrom stretch k n m words .count) × (runFrom stretch k n m words .count ≤ n + k)
-  count-most = let c = counted stretch k n m words in (c .least, c .most)
+pub count-most : CountMost
+count-most stretch k n m words = let c = counted stretch k n m words in (c .least, c .most)
 
-  pub count-spent : runFrom stretch k n m words .ending ≡ spent → runFrom stretch k n m words .count ≡ n + k
-  count-spent e = counted stretch k n m words .spent e
+pub count-spent : CountSpent
+count-spent stretch k n m words e = counted stretch k n m words .spent e

@@ -22,6 +22,7 @@ use Rattle.runs.specs.Run.{runFrom}
 use Rattle.executions.proofs.Parts.{live, planned, frameFor, leaveNumber}
 use Rattle.executions.proofs.Says.{Says, itself, said, says-bind, says-then, says-accept}
 use Rattle.executions.proofs.Runs.{run-keeps}
+use Rattle.executions.specs.Statements.{RunLayout, RunLength, RunPast}
 
 -- a record and words that came of those of a start
 pub record Came (l : Layout) (words : List ℕ) (n : Machine) (now : List ℕ) : Type 0 where
@@ -91,18 +92,17 @@ module _ (l : Layout) (words : List ℕ) (m : Machine) (now : List ℕ) (h : Cam
       said CameBy _ d
       (says-bind (ActSame m) CameBy (decide m (fetch m now) (readWord m now)) (commit m now) (decide-same m (fetch m now) (readWord m now)) commit-came) e
 
-module _ (stretch : Bool) (k n : ℕ) (m : Machine) (words : List ℕ) where
-  run-came : Came (m .layout) words (runFrom stretch k n m words .machine) (runFrom stretch k n m words .words)
-  run-came =
-      run-keeps (Came (m .layout) words) (λ x now d e h. step-came (m .layout) words x now h d e) stretch k n m words
-      (record { layout = refl; room = refl; past = λ i l. refl })
+run-came : (stretch : Bool) (k n : ℕ) (m : Machine) (words : List ℕ)
+    → Came (m .layout) words (runFrom stretch k n m words .machine) (runFrom stretch k n m words .words)
+run-came stretch k n m words =
+    run-keeps (Came (m .layout) words) (λ x now d e h. step-came (m .layout) words x now h d e) stretch k n m words
+    (record { layout = refl; room = refl; past = λ i l. refl })
 
-  pub run-layout : runFrom stretch k n m words .machine .layout ≡ m .layout
-  run-layout = run-came .layout
+pub run-layout : RunLayout
+run-layout stretch k n m words = run-came stretch k n m words .layout
 
-  pub run-length : length (runFrom stretch k n m words .words) ≡ length words
-  run-length = run-came .room
+pub run-length : RunLength
+run-length stretch k n m words = run-came stretch k n m words .room
 
-  -- words past the last segment never change
-  pub run-past : (i : ℕ) → wordsIn (m .layout .lengths) ≤ i → getD (runFrom stretch k n m words .words) i 0 ≡ getD words i 0
-  run-past i l = run-came .past i l
+pub run-past : RunPast
+run-past stretch k n m words i l = run-came stretch k n m words .past i l

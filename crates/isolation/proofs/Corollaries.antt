@@ -1,20 +1,17 @@
 -- What follows from isolation: for a hidden word, for runs in which no crossing completes, and for a domain that could not write.
-use Prim.Native.Nat.{ℕ, zero, suc, _+_, _≤_}
+use Prim.Native.Nat.{ℕ, zero, suc, _+_}
 use mathlib.Core.Bool.{true, false}
 use mathlib.Core.List.{List}
 use mathlib.Core.Path.{_≡_, refl, _∙_}
-use lib.ListN.{length, set, length-set}
+use lib.ListN.{length-set}
 use Rattle.words.specs.Answer.{Answer, refuse, ok}
 use Rattle.state.specs.declared.record.Machine.{Machine}
-use Rattle.state.specs.Bases.{wordsIn}
 use Rattle.runs.specs.Step.{Completion, stopped, proceeded, crossing, Done, execute}
 use Rattle.runs.specs.Run.{crossed, after, afterCompletion, runFrom}
-use Rattle.processor.specs.Calls.{runOf, stretchOf}
-use Rattle.isolation.specs.Visible.{maySee, couldWrite, existing, place}
-use Rattle.isolation.specs.Isolation.{Agree, Unchanged, Isolated}
 use Rattle.isolation.proofs.Theorem.{isolation-fits}
 use Rattle.isolation.proofs.Hidden.{hidden-agrees}
-use Rattle.isolation.proofs.ReadOnly.{NoWrite, NoLiveWrite, no-write}
+use Rattle.isolation.proofs.ReadOnly.{no-write}
+use Rattle.isolation.specs.Statements.{Secrecy, RunIsolation, Integrity, ReadOnly}
 
 -- a run whose stretch does not end at a crossing is that stretch
 abbrev Same : ℕ → ℕ → Machine → List ℕ → Type 0
@@ -36,23 +33,16 @@ run-is-stretch (suc k) n m w h = by (execute m w) (run-is-stretch k (n + 1)) h
     by (refuse f) rest h = refl
     by (ok d) rest h = event (d .event) (d .machine) (d .words) (rest (d .machine) (d .words)) h
 
-module _ (m : Machine) (limit : ℕ) (w : List ℕ) (few : wordsIn (m .layout .lengths) ≤ 8192) (hw : 8192 ≤ length w) where
-  -- another number in a word that the domain may not see
-  pub secrecy : (s k x : ℕ) → existing m s k ≡ true → maySee m s k ≡ false
-      → Isolated m w (set w (place m s k) x) (stretchOf limit m w) (stretchOf limit m (set w (place m s k) x))
-  secrecy s k x e hidden = isolation-fits m limit w _ few hw (rw length-set hw) (hidden-agrees m w s k x e hidden)
+pub secrecy : Secrecy
+secrecy m limit w few hw s k x e hidden = isolation-fits m limit w _ few hw (rw length-set hw) (hidden-agrees m w s k x e hidden)
 
-  -- runs in which no crossing completes
-  pub run-isolation : (v : List ℕ) → 8192 ≤ length v → Agree m w v → (stretchOf limit m w .ending ≡ crossed → ⊥)
-      → Isolated m w v (runOf limit m w) (runOf limit m v)
-  run-isolation v hv h stays =
-      let i = isolation-fits m limit w v few hw hv h in
-      rw (run-is-stretch limit 0 m w stays, run-is-stretch limit 0 m v (λ e. stays (i .ending ∙ e))) i
+pub run-isolation : RunIsolation
+run-isolation m limit w few hw v hv h stays =
+    let i = isolation-fits m limit w v few hw hv h in
+    rw (run-is-stretch limit 0 m w stays, run-is-stretch limit 0 m v (λ e. stays (i .ending ∙ e))) i
 
-  -- integrity: a word that the domain could not write is unchanged
-  pub integrity : (s k : ℕ) → existing m s k ≡ true → couldWrite m s k ≡ false → Unchanged m w (stretchOf limit m w) s k
-  integrity s k e c = isolation-fits m limit w w few hw hw (λ s k _. refl) .unwritten s k e c .0
+pub integrity : Integrity
+integrity m limit w few hw s k e c = isolation-fits m limit w w few hw hw (λ s k _. refl) .unwritten s k e c .0
 
-  -- a domain with no W and no live capability with W changes no word
-  pub read-only : NoWrite m → NoLiveWrite m → (s k : ℕ) → existing m s k ≡ true → Unchanged m w (stretchOf limit m w) s k
-  read-only none dead s k e = integrity s k e (no-write m none dead s k)
+pub read-only : ReadOnly
+read-only m limit w few hw none dead s k e = integrity m limit w few hw s k e (no-write m none dead s k)

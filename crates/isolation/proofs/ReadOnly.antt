@@ -4,29 +4,19 @@ use mathlib.Core.Bool.{Bool, true, false, _||_, and-false}
 use mathlib.Core.List.{List, [], _∷_}
 use mathlib.Core.Path.{_≡_, refl}
 use lib.Dec.{eqb}
-use lib.ListN.{getD, take}
+use lib.ListN.{getD}
 use Rattle.words.specs.Answer.{refuse, if_then_else_}
 use Rattle.words.specs.Numbers.{noMatch, noWord, flagMissing}
 use Rattle.state.specs.declared.record.Capability.{Capability}
 use Rattle.state.specs.declared.record.Machine.{Machine}
-use Rattle.state.specs.Record.{noCapability, inUse, liveFrame}
+use Rattle.state.specs.Record.{noCapability, inUse}
 use Rattle.references.specs.declared.flag.Flag.the-variants as flag
 use Rattle.references.specs.declared.flag.Access.the-variants as access
-use Rattle.references.specs.Flag.{has}
-use Rattle.references.specs.Static.{exists, rightsOf, staticOf}
+use Rattle.references.specs.Static.{exists, staticOf}
 use Rattle.capabilities.specs.Search.{coversOf, firstOf}
 use Rattle.references.specs.Live.{liveMatch, sourced, liveOf}
 use Rattle.isolation.specs.Visible.{couldWrite}
-
--- no segment on which the executing domain has W
-abbrev pub NoWrite : Machine → Type 0
-NoWrite m = (s : ℕ) → has (rightsOf (m .layout .rights) (m .registers .domain) s) flag.Write ≡ false
-
--- no capability of the live frame with W
-abbrev pub NoLiveWrite : Machine → Type 0
-NoLiveWrite m =
-    let f = liveFrame (m .depth) (m .frames) in
-    (i : ℕ) → getD (take (f .count) (f .capabilities)) i noCapability .write ≡ false
+use Rattle.isolation.specs.Statements.{NoWrite, NoLiveWrite}
 
 -- a search for what no capability fits finds nothing
 finds-none : (fits : Capability → Bool) (cs : List Capability) → ((i : ℕ) → fits (getD cs i noCapability) ≡ false) → firstOf fits cs ≡ refuse noMatch

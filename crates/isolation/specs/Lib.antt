@@ -1,2 +1,3 @@
 pub mod Visible
 pub mod Isolation
+pub mod Statements

@@ -9,7 +9,8 @@ use Rattle.state.specs.declared.record.Machine.{Machine}
 use Rattle.runs.specs.Step.{Completion, stopped, proceeded, crossing, Done, execute}
 use Rattle.runs.specs.Run.{Ran, ran, halted, spent, faulted, refused, after, afterCompletion, runFrom, judged, calledOf}
 use Rattle.processor.specs.Calls.{runOf, runCall, stepped, stepCall}
-use Rattle.processor.specs.Steps.{advance, advances, steps, asStep}
+use Rattle.processor.specs.Steps.{advance, advances, asStep}
+use Rattle.processor.specs.Statements.{RunSteps, CallOne}
 
 -- the first of the steps is made first
 first-step : (n : ℕ) (r : Ran) → advances (suc n) r ≡ advances n (advance r)
@@ -54,7 +55,7 @@ steps-from (suc n) c m words =
     (λ i. after false (λ m words. steps-from n (c + 1) m words i) c m words (execute m words)) ∙
     sym (step-on n c m words (execute m words)) ∙ sym (first-step n (ran m words c spent))
 
-pub run-steps : (n : ℕ) (m : Machine) (words : List ℕ) → runOf n m words ≡ steps n m words
+pub run-steps : RunSteps
 run-steps n m words = steps-from n 0 m words
 
 -- a step is a run of limit 1
@@ -73,12 +74,12 @@ module _ (m : Machine) (words : List ℕ) where
   unfolding runFrom
   run-one = done-one (execute m words)
 
-  -- and so are the calls
-  pub call-one : asStep (runCall 1 m words) ≡ stepCall m words
-  unfolding runCall calledOf stepCall
-  call-one = by (eqb (judged m words) 0)
-    where
-      by : (t : Bool)
-          → asStep (if t then runOf 1 m words else ran m words 0 (refused (judged m words))) ≡ stepped m words (if t then execute m words else refuse (judged m words))
-      by true = run-one
-      by false = refl
+-- and so are the calls
+pub call-one : CallOne
+unfolding runCall calledOf stepCall
+call-one m words = by (eqb (judged m words) 0)
+  where
+    by : (t : Bool)
+        → asStep (if t then runOf 1 m words else ran m words 0 (refused (judged m words))) ≡ stepped m words (if t then execute m words else refuse (judged m words))
+    by true = run-one m words
+    by false = refl

@@ -36,6 +36,7 @@ use Rattle.runs.specs.Run.{runFrom, judged, calledOf}
 use Rattle.processor.specs.Calls.{runCall}
 use Rattle.readings.specs.Question.{answer}
 use Rattle.readings.specs.Table.{Row, table}
+use Rattle.readings.specs.Statements.{Readings}
 
 abbrev both : Bool → Bool → Bool
 both a b = if a then b else false
@@ -83,8 +84,7 @@ each (q ∷ rs) e r m =
     let t = parts (same (answer (q .asked)) (q .due)) (hold rs) e in
     ⊎-elim (λ (p : r ≡ q). rw p (same-answer _ _ (t .0))) (λ n. each rs (t .1) r n) (List·Memᴰ·cases-cons m)
 
--- THE STARRED READINGS
-pub readings : (r : Row) → List·Memᴰ r table → answer (r .asked) ≡ r .due
+pub readings : Readings
 unfolding field common pointerOf signedOf displacedOf literalOf instructionOf
     baseOf basesOf freshOf allFrom segmentTest stackTest rightsTest startTest layoutTest registersTest pointerTest pointersTest
     capabilityTest emptyCapability emptyPointer emptyFrame frameTest framesTest soundTest

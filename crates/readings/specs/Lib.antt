@@ -1,3 +1,4 @@
 pub mod Scene
 pub mod Question
 pub mod Table
+pub mod Statements

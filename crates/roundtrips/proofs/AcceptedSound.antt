@@ -20,10 +20,10 @@ use Rattle.image_format.specs.Bytes.{joined}
 use Rattle.image_format.specs.Segment.{Segment, allWords}
 use Rattle.image_format.specs.Domain.{Domain, allRights}
 use Rattle.image_format.specs.Image.{Image, imageOf, layoutOf, padded, allRows}
-use Rattle.image_reader.specs.Rows.{lengthsOf, gatesOf, gatedomainsOf, stacksOf}
 use Rattle.image_format.proofs.Padded.{padded-length}
 use Rattle.roundtrips.proofs.Good.{All, all-at, Good, GoodSegment, GoodDomain}
 use Rattle.roundtrips.proofs.Accepted.{accepted}
+use Rattle.image_reader.specs.Private.{lengthsOf, gatesOf, gatedomainsOf, stacksOf}
 
 abbrev pub noSegment : Segment
 noSegment = record { gates = 0; domain = 0; words = [] }

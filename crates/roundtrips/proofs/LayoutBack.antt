@@ -25,16 +25,8 @@ use Rattle.image_format.proofs.Padded.{padded-length}
 use Rattle.image_format.proofs.Sizes.{segment-words, domain-rights, words-all}
 use Rattle.roundtrips.proofs.Good.{All, Good, GoodSegment, GoodDomain}
 use Rattle.roundtrips.proofs.AcceptedSound.{noSegment, noDomain, padded-at, padded-past, map-at, map-past, rights-at, rows-size}
-use Rattle.roundtrips.proofs.ReadBack.{Below}
 use Rattle.roundtrips.proofs.WriteBack.{below-drop, below-take}
-
--- the lists of a layout are as long as its arrays
-pub record Arrays (l : Layout) : Type 0 where
-  pub lengths : length (l .lengths) ≡ 16
-  pub gates : length (l .gates) ≡ 16
-  pub gatedomains : length (l .gatedomains) ≡ 16
-  pub stacks : length (l .stacks) ≡ 8
-  pub rights : length (l .rights) ≡ 128
+use Rattle.roundtrips.specs.Statements.{Below, Arrays}
 
 pub rows-at : {A : Type 0} (row : ℕ → A) (i n j : ℕ) (d : A) → j < n → getD (rowsFrom row i n) j d ≡ row (i + j)
 unfolding rowsFrom

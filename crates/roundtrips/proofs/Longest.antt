@@ -13,7 +13,8 @@ use Rattle.soundness.proofs.Facts.{LayoutSound, layout-facts}
 use Rattle.image_format.specs.Image.{imageOf, imageFrom, bytesOf}
 use Rattle.image_format.proofs.Sizes.{image-size}
 use Rattle.roundtrips.proofs.ReadBack.{image-back}
-use Rattle.roundtrips.proofs.LayoutBack.{Arrays, good-image, wide-image}
+use Rattle.roundtrips.proofs.LayoutBack.{good-image, wide-image}
+use Rattle.roundtrips.specs.Statements.{Arrays}
 
 abbrev pub largest : Layout
 largest =

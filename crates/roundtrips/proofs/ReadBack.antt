@@ -4,7 +4,7 @@ use native.Mathlib.Omega.{arith}
 use mathlib.Core.Path.{_≡_, refl, sym, ap, _∙_}
 use mathlib.Core.Bool.{false}
 use mathlib.Core.List.{List, [], _∷_, _++_, append-assoc, append-nil}
-use lib.ListN.{length, getD, drop, length-append}
+use lib.ListN.{length, drop, length-append}
 use lib.Seq.{take-append-seam, drop-append-seam}
 use borrow.Author.Tests.{lt-ltb, le-leb, eq-eqb}
 use Rattle.words.specs.Answer.{Answer, ok}
@@ -20,10 +20,7 @@ use Rattle.image_format.specs.Image.{Image, endOf, imageOf, bytesOf}
 use Rattle.image_format.specs.declared.Head.{Head}
 use Rattle.roundtrips.proofs.Good.{All, Good, GoodSegment, GoodDomain}
 use Rattle.image_format.proofs.Written.{words-size}
-
--- every number of a list is below n
-abbrev pub Below : ℕ → List ℕ → Type 0
-Below n xs = (k : ℕ) → getD xs k 0 < n
+use Rattle.roundtrips.specs.Statements.{Below}
 
 pub pair-back : (n : ℕ) (rest : List ℕ) → n < 65536 → pairOf (pairBytes n ++ rest) ≡ n
 unfolding pairOf pairBytes

@@ -1,11 +1,11 @@
 -- Writing and reading back, reading and writing back, and what an accepted image gives.
-use Prim.Native.Nat.{ℕ, _+_, _^_, _≤_}
+use Prim.Native.Nat.{ℕ, _+_, _≤_}
 use native.Mathlib.Omega.{arith}
 use mathlib.Core.Path.{_≡_, sym, ap, _∙_}
 use mathlib.Core.Bool.{true}
 use mathlib.Core.List.{List, _++_}
 use lib.Dec.{leb}
-use lib.ListN.{length, take, drop, length-append, length-drop}
+use lib.ListN.{length, drop, length-append, length-drop}
 use borrow.Author.Tests.{le-leb, leb-true}
 use Rattle.words.specs.Answer.{Answer, ok, _>>_, require}
 use Rattle.state.specs.declared.record.Layout.{Layout}
@@ -21,10 +21,11 @@ use Rattle.image_writer.specs.Writer.{writeImage}
 use Rattle.image_format.proofs.Answers.{passed, test, after, the-value}
 use Rattle.roundtrips.proofs.Accepted.{accepted, longest}
 use Rattle.roundtrips.proofs.AcceptedSound.{accepted-sound}
-use Rattle.roundtrips.proofs.ReadBack.{Below, image-back}
+use Rattle.roundtrips.proofs.ReadBack.{image-back}
 use Rattle.roundtrips.proofs.WriteBack.{image-forth}
-use Rattle.roundtrips.proofs.LayoutBack.{Arrays, words-in-order, words-count, good-image, wide-image, layout-back}
+use Rattle.roundtrips.proofs.LayoutBack.{words-in-order, words-count, good-image, wide-image, layout-back}
 use Rattle.roundtrips.proofs.LayoutForth.{image-again}
+use Rattle.roundtrips.specs.Statements.{WriteThenRead, ReadThenWrite, ReadSound, ReadLongest}
 
 -- the facts of an accepted read
 read-image : (bytes ws : List ℕ) (i : Image) → readImage bytes ws ≡ ok i → (8192 ≤ length ws) × (imageOf bytes ≡ ok i)
@@ -44,14 +45,7 @@ wrote m words output bytes e =
     let v = passed (soundTest m) 9 _ (u .0) in
     record { sound = v .0; enough = leb-true _ _ (test _ 7 (v .1)); is = the-value (t .1) }
 
--- what a read gives of a layout with its words: the fresh machine of the layout, and its words from the start of the memory
-pub record GivesBack (l : Layout) (words bytes : List ℕ) (m : Machine) (ws : List ℕ) : Type 0 where
-  pub machine : machineAfter m (readImage bytes ws) ≡ record { machine = freshOf l; number = 0 }
-  pub memory : memoryAfter ws (readImage bytes ws) ≡ take (wordsIn (l .lengths)) words ++ drop (wordsIn (l .lengths)) ws
-
--- the bytes that are written of any machine are read back as its fresh machine with the same words
-pub write-then-read : (m : Machine) (words output bytes : List ℕ) → writeImage m words output ≡ ok bytes → Arrays (m .layout) → Below (2 ^ 32) words
-    → (m′ : Machine) (ws : List ℕ) → 8192 ≤ length ws → GivesBack (m .layout) words bytes m′ ws
+pub write-then-read : WriteThenRead
 unfolding readImage machineAfter memoryAfter
 write-then-read m words output bytes e a b m′ ws h =
     let w = wrote m words output bytes e in
@@ -66,25 +60,20 @@ write-then-read m words output bytes e a b m′ ws h =
       memory = ap (memoryAfter ws) r ∙ (λ j. words-in-order l words s a (w .enough) j ++ drop (n j) ws);
     }
 
-module _ (bytes ws : List ℕ) (i : Image) (e : readImage bytes ws ≡ ok i) where
-  -- the bytes that are read are written of the machine and the memory that come of them
-  pub read-then-write : (m : Machine) (output : List ℕ) → Below 256 bytes → length bytes ≤ length output
-      → writeImage (machineAfter m (readImage bytes ws) .machine) (memoryAfter ws (readImage bytes ws)) output ≡ ok bytes
-  unfolding writeImage machineAfter memoryAfter freshOf
-  read-then-write m output b h =
-      let r = read-image bytes ws i e in
-      let g = accepted bytes i (r .1) in
-      let mem = allWords (i .segments) ++ drop (length (allWords (i .segments))) ws in
-      let same : bytesOf (imageFrom (layoutOf i) mem) ≡ bytes = ap bytesOf (image-again i g (drop (length (allWords (i .segments))) ws)) ∙ image-forth bytes b (r .1) in
-      let size : length mem ≡ length ws = length-append (allWords (i .segments)) (drop (length (allWords (i .segments))) ws) ∙ (let z : length (allWords (i .segments)) + length (drop (length (allWords (i .segments))) ws) ≡ length ws = omega (arith, length-drop (length (allWords (i .segments))) ws, r .0, g .words) in z) in
-      ap (λ (x : Answer Image). writeImage (machineAfter m x .machine) (memoryAfter ws x) output) e ∙
-      simp (accepted-sound bytes i (r .1), le-leb 8192 (length mem) (omega (arith, r .0)), same, le-leb (length bytes) (length output) h)
+pub read-then-write : ReadThenWrite
+unfolding writeImage machineAfter memoryAfter freshOf
+read-then-write bytes ws i e m output b h =
+    let r = read-image bytes ws i e in
+    let g = accepted bytes i (r .1) in
+    let mem = allWords (i .segments) ++ drop (length (allWords (i .segments))) ws in
+    let same : bytesOf (imageFrom (layoutOf i) mem) ≡ bytes = ap bytesOf (image-again i g (drop (length (allWords (i .segments))) ws)) ∙ image-forth bytes b (r .1) in
+    let size : length mem ≡ length ws = length-append (allWords (i .segments)) (drop (length (allWords (i .segments))) ws) ∙ (let z : length (allWords (i .segments)) + length (drop (length (allWords (i .segments))) ws) ≡ length ws = omega (arith, length-drop (length (allWords (i .segments))) ws, r .0, g .words) in z) in
+    ap (λ (x : Answer Image). writeImage (machineAfter m x .machine) (memoryAfter ws x) output) e ∙
+    simp (accepted-sound bytes i (r .1), le-leb 8192 (length mem) (omega (arith, r .0)), same, le-leb (length bytes) (length output) h)
 
-  -- the machine that is read is sound
-  pub read-sound : (m : Machine) → soundTest (machineAfter m (readImage bytes ws) .machine) ≡ true
-  unfolding machineAfter
-  read-sound m = ap (λ (x : Answer Image). soundTest (machineAfter m x .machine)) e ∙ accepted-sound bytes i (read-image bytes ws i e .1)
+pub read-sound : ReadSound
+unfolding machineAfter
+read-sound bytes ws i e m = ap (λ (x : Answer Image). soundTest (machineAfter m x .machine)) e ∙ accepted-sound bytes i (read-image bytes ws i e .1)
 
-  -- an accepted image has at most 33,080 bytes
-  pub read-longest : length bytes ≤ 33080
-  read-longest = longest bytes i (read-image bytes ws i e .1)
+pub read-longest : ReadLongest
+read-longest bytes ws i e = longest bytes i (read-image bytes ws i e .1)

@@ -24,7 +24,7 @@ use Rattle.image_format.proofs.Chunks.{chunk-facts, exact-size}
 use Rattle.image_format.proofs.Segments.{segment-facts}
 use Rattle.image_format.proofs.Images.{image-facts, head-facts, HeadRead, segments-facts, segments-end, segments-count, domains-facts, domains-end, domains-count}
 use Rattle.roundtrips.proofs.Good.{domain-facts}
-use Rattle.roundtrips.proofs.ReadBack.{Below}
+use Rattle.roundtrips.specs.Statements.{Below}
 
 pub below-drop : (n m : ℕ) (xs : List ℕ) → Below n xs → Below n (drop m xs)
 below-drop n m xs b k = rw (getD-drop m xs k 0) (b (m + k))

@@ -17,17 +17,7 @@ use Rattle.snapshot_writer.specs.Tabulate.{tabulate}
 use Rattle.snapshot_reader.specs.Read.{byteAt, pairAt, pointerAt, capabilityAt, frameAt, layoutAt, registersAt, recordOf}
 use Rattle.snapshot_writer.specs.Write.{wordByte, pointerByte, capabilityByte, frameByte, segmentByte, domainByte, placeByte, startByte, layoutByte, byteOf, recordBytes}
 use Rattle.snapshot_writer.proofs.Fill.{tabulate-at, filled-all}
-
--- the arrays have their lengths
-pub record Whole (m : Machine) : Type 0 where
-  pub lengths : length (m .layout .lengths) ≡ 16
-  pub gates : length (m .layout .gates) ≡ 16
-  pub gatedomains : length (m .layout .gatedomains) ≡ 16
-  pub stacks : length (m .layout .stacks) ≡ 8
-  pub rights : length (m .layout .rights) ≡ 128
-  pub pointers : length (m .pointers) ≡ 8
-  pub frames : length (m .frames) ≡ 8
-  pub capabilities : (i : ℕ) → i < 8 → length (getD (m .frames) i noFrame .capabilities) ≡ 9
+use Rattle.snapshot_reader.specs.Statements.{FullArrays, RecordReadBack}
 
 -- a list is given by what it holds at each index
 given-by : {A : Type 0} (n : ℕ) (d : A) (f : ℕ → A) (xs : List A) → length xs ≡ n → ((k : ℕ) → k < n → f k ≡ getD xs k d) → tabulate n f ≡ xs
@@ -152,7 +142,7 @@ module _ (m : Machine) where
         let r : x - 915 ≡ c = omega arith in
         held x (omega arith) ∙ simp (le-ltb x 218 (omega arith), le-ltb x 222 (omega arith), le-ltb x 254 (omega arith), le-ltb x 259 (omega arith), le-ltb x 915 (omega arith)) (ap (startByte (m .layout .start)) r)
 
-  module _ (w : Whole m) where
+  module _ (w : FullArrays m) where
     lengths-back : (k : ℕ) → k < 16 → pairAt (recordBytes m) (2 + k * 5) ≡ getD (m .layout .lengths) k 0
     lengths-back k h = pair-back _ _ _ (segment-part (2 + k * 5) 0 k (omega arith) h (omega arith)) (segment-part (2 + k * 5 + 1) 1 k refl h (omega arith))
 
@@ -205,10 +195,9 @@ module _ (m : Machine) where
           domain = place-part 257 3 refl (omega arith) j;
         }
 
-    -- THE RECORD IS READ BACK
-    pub round-trip : recordOf (recordBytes m) ≡ m
+    read-back : recordOf (recordBytes m) ≡ m
     unfolding recordOf
-    round-trip =
+    read-back =
         λ j.
         record {
           layout = layout-back j;
@@ -217,3 +206,6 @@ module _ (m : Machine) where
           frames = given-by 8 noFrame (λ i. frameAt (recordBytes m) (259 + i * 82)) (m .frames) (w .frames) (λ k h. frame-back (recordBytes m) _ (getD (m .frames) k noFrame) (w .capabilities k h) (λ x c e l. frame-part x c k e h l)) j;
           depth = place-part 258 4 refl (omega arith) j;
         }
+
+pub round-trip : RecordReadBack
+round-trip m w = read-back m w

@@ -5,13 +5,13 @@ use mathlib.Core.Path.{_≡_, refl}
 use mathlib.Core.Bool.{true, false}
 use borrow.Author.Tests.{le-leb}
 use lib.ListN.{replicate, set}
-use Rattle.state.specs.declared.record.Layout.{Layout}
 use Rattle.state.specs.Record.{noPointer, freeFrame}
-use Rattle.layout_soundness.specs.SoundLayout.{allFrom, layoutTest}
+use Rattle.layout_soundness.specs.SoundLayout.{allFrom}
 use Rattle.soundness.specs.Sound.{pointerTest, pointersTest, emptyCapability, emptyPointer, emptyFrame, framesTest, soundTest}
 use Rattle.fresh.specs.Fresh.{freshOf}
 use Rattle.layout_soundness.proofs.Tests.{join}
 use Rattle.soundness.proofs.Facts.{layout-facts, facts-registers}
+use Rattle.soundness.specs.Statements.{FreshSound}
 
 pub free-frame : emptyFrame freeFrame ≡ true
 unfolding emptyFrame emptyPointer emptyCapability allFrom
@@ -25,7 +25,7 @@ no-frames : (domains : ℕ) → framesTest domains 0 (replicate 8 freeFrame) ≡
 unfolding framesTest emptyFrame emptyPointer emptyCapability allFrom
 no-frames domains = refl
 
-pub fresh-sound : (l : Layout) → layoutTest l ≡ true → soundTest (freshOf l) ≡ true
+pub fresh-sound : FreshSound
 unfolding freshOf soundTest
 fresh-sound l e =
     let f = layout-facts l e in

@@ -1,8 +1,8 @@
 -- Laws of fields: a mask of ones takes a field out, and a word is the sum of its fields.
-use Prim.Native.Nat.{ℕ, zero, suc, _+_, _-_, _*_, _/_, _%_, _^_, _<_, _≤_, min}
+use Prim.Native.Nat.{ℕ, zero, suc, _+_, _-_, _*_, _/_, _%_, _^_, _<_}
 use native.Mathlib.Omega.{arith}
 use native.Mathlib.Nat.{one-mul, pow-suc, mod-lt, div-one}
-use mathlib.Core.Path.{_≡_, refl, sym, ap, _∙_}
+use mathlib.Core.Path.{_≡_, sym, _∙_}
 use lib.Bits.{bitAnd, bitOr, and-mask, and-step, and-zero-l, or-shifted}
 use lib.Dec.{lit<}
 use lib.Pow.{pow-pos, shl-exact, high, low, mod-pow-add}

@@ -2,13 +2,13 @@
 use Prim.Native.Nat.{ℕ, suc, _+_, _-_, _%_, _^_, _<_, _≤_}
 use native.Mathlib.Omega.{arith}
 use native.Mathlib.Nat.{mod-eq-of-lt}
-use mathlib.Core.Path.{_≡_, refl, sym, ap, _∙_}
+use mathlib.Core.Path.{_≡_, refl, sym, ap}
 use mathlib.Core.Bool.{Bool, true, false}
 use borrow.Author.Tests.{ltb-true, ltb-false, lt-ltb, le-ltb, le-leb, lt-leb}
-use lib.Dec.{T, ltb, leb}
-use lib.IntN.{ℤ, pos, negsuc, subℕ, _+ℤ_, _-ℤ_, natAbs}
+use lib.Dec.{T, ltb}
+use lib.IntN.{ℤ, pos, negsuc, subℕ, _+ℤ_, natAbs}
 use lib.Signed.{mag, ltZ, nonNeg}
-use Rattle.words.specs.Answer.{Answer, refuse, ok, if_then_else_}
+use Rattle.words.specs.Answer.{refuse, ok, if_then_else_}
 use Rattle.words.specs.Offset.{inRange, displacedOf, literalOf}
 
 pub never : {A : Type 0} → false ≡ true → A

@@ -1,17 +1,18 @@
 -- Packing a pointer and unpacking its word, both ways round.
-use Prim.Native.Nat.{ℕ, zero, suc, _+_, _*_, _/_, _%_, _^_, _<_}
+use Prim.Native.Nat.{ℕ, zero, suc, _+_, _*_, _%_, _^_, _<_}
 use native.Mathlib.Omega.{arith}
 use native.Mathlib.Nat.{mod-eq-of-lt}
 use mathlib.Core.Bool.{Bool, true, false}
-use mathlib.Core.Path.{_≡_, refl, sym, ap, _∙_}
-use borrow.Author.Tests.{eq-eqb, eqb-true}
+use mathlib.Core.Path.{_≡_, refl, sym, _∙_}
+use borrow.Author.Tests.{eqb-true}
 use lib.Dec.{eqb}
-use Rattle.words.specs.Answer.{Answer, refuse, ok, _>>_, require}
+use Rattle.words.specs.Answer.{ok, _>>_, require}
 use Rattle.words.specs.Field.{field}
 use Rattle.words.specs.Bit.{bit}
 use Rattle.words.specs.PointerWord.{pointerWord, pointerOf}
 use Rattle.words.specs.declared.pointer.Pointer.{Pointer}
 use Rattle.words.proofs.Fields.{field-of, field-low, fields-sum, field-lt}
+use Rattle.words.specs.Statements.{UnpackPacked, PackUnpacked}
 
 bit-lt : (t : Bool) → bit t < 2 ^ 1
 bit-lt true = omega arith
@@ -44,9 +45,9 @@ module _ (p : Pointer) (hw : p .word < 2 ^ 12) (hs : p .segment < 2 ^ 4) where
   whole : (k n lo x hi : ℕ) → lo < 2 ^ k → x < 2 ^ n → pointerWord p ≡ (hi * 2 ^ n + x) * 2 ^ k + lo → field k n (pointerWord p) ≡ x
   whole k n lo x hi hlo hx e = rw e (field-of k n lo x hi hlo hx)
 
-  pub unpack-packed : pointerOf (pointerWord p) ≡ ok p
+  unpacked : pointerOf (pointerWord p) ≡ ok p
   unfolding pointerOf
-  unpack-packed =
+  unpacked =
       let ht : t < 2 = bit-lt (p .tag) in
       let e = word-is in
       rw (
@@ -56,6 +57,9 @@ module _ (p : Pointer) (hw : p .word < 2 ^ 12) (hs : p .segment < 2 ^ 4) where
         whole 31 1 (s * 2 ^ 12 + w) t 0 (omega arith) ht (omega arith),
         bit-on (p .tag),
       )
+
+pub unpack-packed : UnpackPacked
+unpack-packed p hw hs = unpacked p hw hs
 
 -- what a word whose bits 16-30 are 0 is read as
 abbrev found : ℕ → Pointer
@@ -74,7 +78,7 @@ packed n h z =
     (sym (mod-eq-of-lt h) ∙ fields-sum 31 1 n) (fields-sum 16 15 n) (fields-sum 12 4 n) (field-low 12 n))
 
 -- a word whose pointer is packed again is that word
-pub pack-unpacked : (w : ℕ) (p : Pointer) → w < 2 ^ 32 → pointerOf w ≡ ok p → pointerWord p ≡ w
+pub pack-unpacked : PackUnpacked
 unfolding pointerOf
 pack-unpacked w p h e = by (eqb (field 16 15 w) 0) refl e
   where

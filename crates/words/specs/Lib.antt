@@ -7,3 +7,4 @@ pub mod PointerWord
 pub mod Offset
 pub mod InstructionWord
 pub mod ModeWord
+pub mod Statements

@@ -1,0 +1,89 @@
+-- What is proved of instructions, steps, runs and stretches; the proofs stand in proofs/.
+use Prim.Native.Nat.{ℕ, _+_, _≤_}
+use mathlib.Core.Bool.{Bool, true, false}
+use mathlib.Core.List.{List}
+use mathlib.Core.Path.{_≡_}
+use lib.ListN.{getD, length}
+use Rattle.words.specs.Answer.{refuse, ok}
+use Rattle.state.specs.declared.record.Machine.{Machine}
+use Rattle.state.specs.Bases.{wordsIn}
+use Rattle.soundness.specs.Sound.{soundTest}
+use Rattle.runs.specs.Step.{Done, execute}
+use Rattle.runs.specs.Run.{ran, spent, faulted, refused, runFrom}
+use Rattle.processor.specs.Calls.{Step, stepCall, runCall, stretchCall}
+use Rattle.processor.specs.Steps.{afterStretch}
+
+-- the numbers of faults
+abbrev pub Fault : ℕ → Type 0
+Fault n = (21 ≤ n) × (n ≤ 32)
+
+-- a sound record; its list of frames is as long as the array
+abbrev pub SoundRecord : Machine → Type 0
+SoundRecord m = (soundTest m ≡ true) × (length (m .frames) ≡ 8)
+
+-- a completed instruction leaves a sound record sound
+abbrev pub StepSound : Type 0
+StepSound = (m : Machine) (words : List ℕ) → SoundRecord m → (d : Done) → execute m words ≡ ok d → SoundRecord (d .machine)
+
+-- so does a run or a stretch of at most k instructions, n completed before it
+abbrev pub RunSound : Type 0
+RunSound = (m : Machine) (words : List ℕ) → SoundRecord m → (stretch : Bool) (k n : ℕ) → SoundRecord (runFrom stretch k n m words .machine)
+
+-- a run is its first stretch, and a run from where that crossed
+abbrev pub RunStretches : Type 0
+RunStretches = (k n : ℕ) (m : Machine) (words : List ℕ) → runFrom false k n m words ≡ afterStretch (n + k) (runFrom true k n m words)
+
+-- the count grows by at most the limit
+abbrev pub CountMost : Type 0
+CountMost =
+    (stretch : Bool) (k n : ℕ) (m : Machine) (words : List ℕ)
+    → (n ≤ runFrom stretch k n m words .count) × (runFrom stretch k n m words .count ≤ n + k)
+
+-- spent means that the count has grown by the limit
+abbrev pub CountSpent : Type 0
+CountSpent =
+    (stretch : Bool) (k n : ℕ) (m : Machine) (words : List ℕ) → runFrom stretch k n m words .ending ≡ spent
+    → runFrom stretch k n m words .count ≡ n + k
+
+-- a run keeps the layout, the number of words, and every word past the last segment
+abbrev pub RunLayout : Type 0
+RunLayout = (stretch : Bool) (k n : ℕ) (m : Machine) (words : List ℕ) → runFrom stretch k n m words .machine .layout ≡ m .layout
+
+abbrev pub RunLength : Type 0
+RunLength = (stretch : Bool) (k n : ℕ) (m : Machine) (words : List ℕ) → length (runFrom stretch k n m words .words) ≡ length words
+
+abbrev pub RunPast : Type 0
+RunPast =
+    (stretch : Bool) (k n : ℕ) (m : Machine) (words : List ℕ) (i : ℕ) → wordsIn (m .layout .lengths) ≤ i
+    → getD (runFrom stretch k n m words .words) i 0 ≡ getD words i 0
+
+-- a step with this number that changed nothing
+abbrev pub idle : Machine → List ℕ → ℕ → Step
+idle m words n = record { machine = m; words = words; number = n; halted = false }
+
+-- a step whose number is not 0, refused or faulted, changed nothing
+abbrev pub FaultLeaves : Type 0
+FaultLeaves = (m : Machine) (words : List ℕ) → (stepCall m words .number ≡ 0 → ⊥) → stepCall m words ≡ idle m words (stepCall m words .number)
+
+-- a refused run and a refused stretch changed nothing and counted nothing
+abbrev pub RefusedLeaves : Type 0
+RefusedLeaves =
+    (limit : ℕ) (m : Machine) (words : List ℕ) (n : ℕ) → runCall limit m words .ending ≡ refused n → runCall limit m words ≡ ran m words 0 (refused n)
+
+abbrev pub RefusedStretchLeaves : Type 0
+RefusedStretchLeaves =
+    (limit : ℕ) (m : Machine) (words : List ℕ) (n : ℕ) → stretchCall limit m words .ending ≡ refused n
+    → stretchCall limit m words ≡ ran m words 0 (refused n)
+
+-- a run that faulted left record and words as they were before the instruction that gives the fault
+abbrev pub RunFaulted : Type 0
+RunFaulted =
+    (stretch : Bool) (k n : ℕ) (m : Machine) (words : List ℕ) (f : ℕ) → runFrom stretch k n m words .ending ≡ faulted f
+    → execute (runFrom stretch k n m words .machine) (runFrom stretch k n m words .words) ≡ refuse f
+
+-- a fault of an instruction, and of a run, is a number from 21 to 32
+abbrev pub FaultNumber : Type 0
+FaultNumber = (m : Machine) (words : List ℕ) (n : ℕ) → execute m words ≡ refuse n → Fault n
+
+abbrev pub RunNumber : Type 0
+RunNumber = (stretch : Bool) (k n : ℕ) (m : Machine) (words : List ℕ) (f : ℕ) → runFrom stretch k n m words .ending ≡ faulted f → Fault f
