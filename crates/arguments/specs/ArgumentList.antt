@@ -1,6 +1,6 @@
 -- The argument list of a call through a gate, and the frame made of it.
 use Prim.Native.Nat.{ℕ, zero, suc, _+_, _*_}
-use mathlib.Core.Bool.{Bool, true, false, not}
+use mathlib.Core.Bool.{true, false, not}
 use mathlib.Core.List.{List}
 use lib.Dec.{leb}
 use lib.IntN.{pos}
@@ -15,7 +15,6 @@ use Rattle.state.specs.declared.record.Capability.{Capability}
 use Rattle.state.specs.declared.record.Frame.{Frame}
 use Rattle.state.specs.Record.{noCapability}
 use Rattle.references.specs.Live.{passedOf}
-use Rattle.arguments.specs.declared.Rows.{Rows}
 use Rattle.arguments.specs.declared.Framed.{Framed}
 use Rattle.memory.specs.Reader.{Reader}
 use Rattle.addressing.specs.Effective.{displacedBy}
@@ -70,10 +69,6 @@ frameAfter read a s caller depth live n =
 unfoldable pub frameOf : Reader → Pointer → Pointer → ℕ → ℕ → Frame → Answer Frame
 frameOf read a s caller depth live =
     listWord read a 0 >>= (λ n. require (leb n 8) badArgument >> frameAfter read a s caller depth live n)
-
--- what the code's answers stand for
-abbrev pub rowsAnswer : Rows → Answer (List Capability)
-rowsAnswer r = if r .refused then refuse (r .number) else ok (r .rows)
 
 abbrev pub frameAnswer : Framed → Answer Frame
 frameAnswer r = if r .refused then refuse (r .number) else ok (r .frame)

@@ -1,1 +1,2 @@
 pub mod ArgumentList
+pub mod Private

@@ -7,8 +7,7 @@ use Rattle.words.specs.Answer.{Answer, refuse, ok}
 use Rattle.runs.specs.declared.outcome.End.{End}
 use Rattle.runs.specs.declared.outcome.End.the-variants as end
 use Rattle.runs.specs.declared.outcome.Outcome.{Outcome}
-use Rattle.runs.specs.Run.{Ending, halted, spent, crossed, faulted, refused}
-use Rattle.runs.specs.Resume.{endAnswer}
+use Rattle.runs.specs.Run.{Ending, halted, spent, crossed, faulted, refused, endAnswer}
 use Rattle.entry.specs.ImageRun.{Final, outcomeAnswer, imageRun, closed}
 use Rattle.entry.proofs.Endings.{Listed, image-ends}
 

@@ -7,9 +7,8 @@ use Rattle.state.specs.declared.record.Layout.{Layout}
 use Rattle.state.specs.declared.record.Machine.{Machine}
 use Rattle.fresh.specs.Fresh.{freshOf}
 use Rattle.runs.specs.declared.outcome.Outcome.{Outcome}
-use Rattle.runs.specs.Run.{Ending, refused, Ran}
+use Rattle.runs.specs.Run.{Ending, refused, Ran, endAnswer}
 use Rattle.processor.specs.Calls.{runOf}
-use Rattle.runs.specs.Resume.{endAnswer}
 use Rattle.image_format.specs.Image.{Image, imageOf, layoutOf}
 use Rattle.image_reader.specs.Reader.{memoryAfter}
 

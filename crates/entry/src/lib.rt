@@ -5,11 +5,11 @@ ghost use mathlib.Core.Path.{_≡_};
 ghost use mathlib.Core.List.{_∷_, _++_};
 ghost use Prim.Native.Nat.{_≤_};
 ghost use lib.ListN.{length, drop};
-ghost use Rattle.runs.specs.Resume.{endAnswer};
 ghost use Rattle.image_format.specs.Bytes.{pairBytes};
 ghost use Rattle.image_writer.specs.Writer.{outputAfter};
 ghost use Rattle.entry.specs.Entry.{endingByte, faultByte, entryOf};
 ghost use Rattle.words.specs.Answer.{numberOf};
+ghost use Rattle.runs.specs.Run.{endAnswer};
 use crate::image_run::run_image;
 use runs::outcome::End;
 

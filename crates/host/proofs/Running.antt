@@ -9,8 +9,7 @@ use lib.ListN.{length}
 use Rattle.snapshot_reader.specs.Read.{recordOf}
 use Rattle.snapshot_writer.specs.Write.{writtenTo}
 use Rattle.runs.specs.declared.outcome.Outcome.{Outcome}
-use Rattle.runs.specs.Run.{Ran, ran, refused}
-use Rattle.runs.specs.Resume.{endAnswer, ranAnswer}
+use Rattle.runs.specs.Run.{Ran, ran, refused, endAnswer, ranAnswer}
 use Rattle.host.specs.Runs.{ranBy, ranOn, endCode, ranCode, bytesAfter}
 
 module _ (bytes words : List ℕ) (limit stretch : ℕ) where

@@ -1,8 +1,8 @@
 // Runs of a machine, on the bytes of its record.
 ghost use mathlib.Core.Path.{_≡_};
 ghost use Prim.Native.Nat.{_+_};
-ghost use Rattle.runs.specs.Resume.{endAnswer, ranAnswer};
 ghost use Rattle.host.specs.Runs.{ranBy, ranOn, endCode, ranCode, bytesAfter};
+ghost use Rattle.runs.specs.Run.{endAnswer, ranAnswer};
 use processor::run;
 use processor::stretch;
 use runs::outcome::End;

@@ -4,14 +4,11 @@ use mathlib.Core.List.{List, _++_}
 use lib.Dec.{leb}
 use lib.ListN.{length, drop}
 use Rattle.words.specs.Answer.{Answer, refuse, ok, _>>_, require}
-use Rattle.state.specs.declared.record.Layout.{Layout}
 use Rattle.state.specs.declared.record.Machine.{Machine}
 use Rattle.fresh.specs.Fresh.{freshOf}
 use Rattle.words.specs.Numbers.{memoryTooShort}
-use Rattle.image_reader.specs.Answers.{verdictAnswer}
 use Rattle.image_format.specs.Segment.{allWords}
 use Rattle.image_format.specs.Image.{Image, imageOf, layoutOf}
-use Rattle.image_reader.specs.declared.judge.Judged.{Judged}
 use Rattle.image_reader.specs.declared.ReadAnswer.{ReadAnswer}
 
 -- the value that an answer gives, made into another
@@ -32,7 +29,3 @@ machineAfter m (ok i) = record { machine = freshOf (layoutOf i); number = 0 }
 unfoldable pub memoryAfter : List ℕ → Answer Image → List ℕ
 memoryAfter words (refuse n) = words
 memoryAfter words (ok i) = allWords (i .segments) ++ drop (length (allWords (i .segments))) words
-
--- what the code's answer stands for
-abbrev pub judgedAnswer : Judged → Answer Layout
-judgedAnswer j = verdictAnswer (j .verdict) >> ok (j .layout)

@@ -2,7 +2,7 @@
 ghost use mathlib.Core.Path.{_≡_};
 ghost use lib.ListN.{drop};
 ghost use Rattle.image_format.specs.Chunk.{headerOf, chunkOf, exactly};
-ghost use Rattle.image_reader.specs.Answers.{headerAnswer, chunkAnswer};
+ghost use Rattle.image_reader.specs.Private.{headerAnswer, chunkAnswer};
 use crate::bytes::left;
 use crate::bytes::pair;
 

@@ -2,7 +2,7 @@
 ghost use mathlib.Core.Path.{_≡_};
 ghost use Rattle.words.specs.PointerWord.{pointerOf, pointerAnswer};
 ghost use Rattle.image_format.specs.Head.{located, headFields, headOf};
-ghost use Rattle.image_reader.specs.Answers.{fieldsAnswer, headAnswer};
+ghost use Rattle.image_reader.specs.Private.{fieldsAnswer, headAnswer};
 use crate::bytes::word;
 use crate::chunk::Verdict;
 use crate::chunk::exact;

@@ -42,8 +42,7 @@ use denote.Exit.{yes}
 use Rattle.state.specs.declared.record.Machine.{Machine}
 use Rattle.state.proofs.record.Machine as T
 use Rattle.state.proofs.record.Machine.Laws as T′
-use Rattle.runs.specs.Run.{Ran}
-use Rattle.runs.specs.Resume.{ranAnswer}
+use Rattle.runs.specs.Run.{Ran, ranAnswer}
 use Rattle.runs.specs.declared.outcome.Outcome.{Outcome}
 use Rattle.runs.proofs.outcome.Outcome as S
 use Rattle.runs.proofs.outcome.Outcome.Laws as S′

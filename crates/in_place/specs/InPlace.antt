@@ -2,9 +2,8 @@
 use Prim.Native.Nat.{ℕ}
 use mathlib.Core.List.{List}
 use Rattle.state.specs.declared.record.Machine.{Machine}
-use Rattle.runs.specs.Run.{Ran, ran}
+use Rattle.runs.specs.Run.{Ran, ran, endAnswer}
 use Rattle.processor.specs.Calls.{Step}
-use Rattle.runs.specs.Resume.{endAnswer}
 use Rattle.in_place.specs.declared.StepResult.{StepResult}
 use Rattle.in_place.specs.declared.RunResult.{RunResult}
 

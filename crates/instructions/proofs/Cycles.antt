@@ -14,8 +14,9 @@ use Rattle.instructions.specs.Plan.{Plan, move, enter}
 use Rattle.transfers.specs.Transfer.{jumpCheck, callWay}
 use Rattle.instructions.specs.Instruction.{jumpOf, callOf, loadOf, next, operateOf}
 use Rattle.pointer_registers.specs.Stack.{stackOf, withBase}
-use Rattle.instructions.specs.Cycle.{Progress, moved, entering, movedRegisters, settled, settledAnswer, settledWords, loaded, called}
+use Rattle.instructions.specs.Cycle.{Progress, moved, entering, movedRegisters, settled, settledWords}
 use Rattle.memory.proofs.Answers.{accept-then}
+use Rattle.instructions.specs.Private.{loaded, called, settledAnswer}
 
 module _ (lengths gates rights stacks bases words : List ℕ) (depth : ℕ) (frame : Frame) (r : Registers) (pointers : List Pointer) where
   abbrev to : Answer Plan → Answer Progress

@@ -11,7 +11,8 @@ use Rattle.state.specs.declared.record.Registers.{Registers}
 use Rattle.references.proofs.Passes.{never}
 use Rattle.memory.specs.Reader.{Reader}
 use Rattle.instructions.specs.Plan.{Plan, leave}
-use Rattle.instructions.specs.Instruction.{EPP, JUMP, CALL, RET, isLoad, isStore, takenOf, jumpsOf, jumpOf, returnOf, branchOf, effectOf, next}
+use Rattle.instructions.specs.Instruction.{EPP, JUMP, CALL, RET, isLoad, isStore, takenOf, jumpOf, returnOf, branchOf, effectOf, next}
+use Rattle.instructions.specs.Private.{jumpsOf}
 
 -- EPP and CALL do not jump
 not-epp : (opcode a : ℕ) (tag : Bool) → jumpsOf opcode a tag ≡ true → eqb opcode EPP ≡ false

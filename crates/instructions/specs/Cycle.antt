@@ -1,10 +1,8 @@
 -- An instruction cycle, fetch and execute, as the loop makes it: everything but a crossing.
 use Prim.Native.Nat.{ℕ, _+_}
-use mathlib.Core.Bool.{Bool, true, false}
 use mathlib.Core.List.{List}
-use mathlib.Core.Path.{_≡_}
 use lib.ListN.{set}
-use Rattle.words.specs.Answer.{Answer, refuse, ok, _>>=_, if_then_else_}
+use Rattle.words.specs.Answer.{Answer, refuse, ok, _>>=_}
 use Rattle.words.specs.declared.pointer.Pointer.{Pointer}
 use Rattle.state.specs.declared.record.Frame.{Frame}
 use Rattle.state.specs.declared.record.Registers.{Registers}
@@ -15,8 +13,7 @@ use Rattle.instructions.specs.declared.cycle.Event.the-variants as event
 use Rattle.instructions.specs.declared.cycle.Cycle.{Cycle}
 use Rattle.memory.specs.Reader.{readOf, fetchOf, writtenOf}
 use Rattle.instructions.specs.Plan.{Plan, halt, move, store, enter, leave}
-use Rattle.instructions.specs.Instruction.{planOf, operateOf}
-use Rattle.pointer_registers.specs.Stack.{withBase}
+use Rattle.instructions.specs.Instruction.{planOf}
 
 -- how far an instruction came
 pub data Progress : Type 0 where
@@ -36,10 +33,6 @@ eventAnswer r pointers (event.Faulted n) = refuse n
 abbrev pub cycleAnswer : List Pointer → Cycle → Answer Progress
 cycleAnswer pointers t = eventAnswer (t .registers) pointers (t .event)
 
--- the same, whatever the pointers are
-abbrev pub Cycles : Cycle → (List Pointer → Answer Progress) → Type 0
-Cycles t f = (pointers : List Pointer) → cycleAnswer pointers t ≡ f pointers
-
 -- the registers with this A at this segment and word
 abbrev pub movedRegisters : Registers → ℕ → ℕ → ℕ → Registers
 movedRegisters r a segment word = record { a = a; word = word; segment = segment; domain = r .domain }
@@ -53,9 +46,6 @@ module _ (lengths rights bases words : List ℕ) (depth : ℕ) (frame : Frame) (
   settled (enter p) = ok (entering p)
   settled (leave p) = ok (leaving p)
 
-  abbrev pub settledAnswer : Answer Plan → Answer Progress
-  settledAnswer plan = plan >>= settled
-
   -- the words after a plan
   abbrev pub settledWords : Answer Plan → List ℕ
   settledWords (refuse n) = words
@@ -64,15 +54,6 @@ module _ (lengths rights bases words : List ℕ) (depth : ℕ) (frame : Frame) (
   settledWords (ok (store p v)) = writtenOf lengths rights bases words (r .domain) depth frame p v
   settledWords (ok (enter p)) = words
   settledWords (ok (leave p)) = words
-
--- LOAD, ADD or SUB with the word read
-abbrev pub loaded : Registers → List Pointer → ℕ → Answer ℕ → Answer Progress
-loaded r pointers opcode answer = answer >>= (λ w. ok (moved (movedRegisters r (operateOf opcode (r .a) w) (r .segment) (r .word + 1)) pointers))
-
--- a call whose checks are made
-abbrev pub called : Registers → List Pointer → ℕ → Pointer → Answer Bool → Answer Progress
-called r pointers stack p way =
-    way >>= (λ inside. if inside then ok (moved (movedRegisters r (r .a) (p .segment) (p .word)) (withBase pointers stack)) else ok (entering p))
 
 -- the instruction at the location, and the words after it
 module _ (lengths gates rights stacks bases words : List ℕ) (depth : ℕ) (frame : Frame) (r : Registers) (pointers : List Pointer) where

@@ -1,6 +1,6 @@
 -- The thirteen instructions.
-use Prim.Native.Nat.{ℕ, zero, suc, _+_, _^_}
-use mathlib.Core.Bool.{Bool, true, false, not, _||_}
+use Prim.Native.Nat.{ℕ, _+_, _^_}
+use mathlib.Core.Bool.{Bool, false, _||_}
 use mathlib.Core.List.{List}
 use lib.Dec.{eqb, leb}
 use lib.ListN.{getD, set}
@@ -78,10 +78,6 @@ valueOf opcode a pointers register = if eqb opcode STORE then a else pointerWord
 -- whether JZ jumps, or JM
 unfoldable pub takenOf : ℕ → ℕ → Bool
 takenOf opcode a = if eqb opcode JZ then eqb a 0 else (if eqb opcode JM then leb (2 ^ 31) a else false)
-
--- whether an opcode jumps to an effective pointer of this tag
-unfoldable pub jumpsOf : ℕ → ℕ → Bool → Bool
-jumpsOf opcode a tag = if eqb opcode JUMP then true else (if eqb opcode RET then not tag else takenOf opcode a)
 
 -- what the instructions know of the configuration and the frames
 module _ (lengths gates rights stacks : List ℕ) (depth : ℕ) (r : Registers) (pointers : List Pointer) where

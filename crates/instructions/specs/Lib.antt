@@ -1,3 +1,4 @@
 pub mod Plan
 pub mod Instruction
 pub mod Cycle
+pub mod Private

@@ -2,8 +2,9 @@
 ghost use mathlib.Core.Path.{_≡_};
 ghost use Prim.Native.Nat.{_<_};
 ghost use Rattle.memory.specs.Reader.{readOf};
-ghost use Rattle.instructions.specs.Instruction.{isLoad, isStore, valueOf, jumpsOf, effectOf, executeOf};
-ghost use Rattle.instructions.specs.Cycle.{cycleAnswer, cycleOf, cycleWords, settledAnswer, settledWords};
+ghost use Rattle.instructions.specs.Instruction.{isLoad, isStore, valueOf, effectOf, executeOf};
+ghost use Rattle.instructions.specs.Cycle.{cycleAnswer, cycleOf, cycleWords, settledWords};
+ghost use Rattle.instructions.specs.Private.{jumpsOf, settledAnswer};
 use crate::effects::call;
 use crate::effects::go_to;
 use crate::effects::load;

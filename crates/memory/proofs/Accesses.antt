@@ -13,8 +13,9 @@ use Rattle.state.specs.declared.record.Frame.{Frame}
 use Rattle.references.specs.declared.flag.Access.{Access}
 use Rattle.references.specs.Static.{exists, staticOf}
 use Rattle.references.specs.Reference.{locateOf, referenceOf, verdictOf}
-use Rattle.memory.specs.Reader.{fetchOf, lengthOf}
+use Rattle.memory.specs.Reader.{fetchOf}
 use Rattle.memory.proofs.Answers.{refused-number, accepted-number}
+use Rattle.memory.specs.Private.{lengthOf}
 
 absent : (lengths : List ℕ) (s w : ℕ) → lengthOf lengths s ≤ w → exists lengths s w ≡ false
 unfolding exists

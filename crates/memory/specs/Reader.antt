@@ -1,9 +1,8 @@
 -- Readers: the words that a domain gets, each after its check.
 use Prim.Native.Nat.{ℕ}
 use mathlib.Core.List.{List}
-use lib.Dec.{ltb}
 use lib.ListN.{getD, set}
-use Rattle.words.specs.Answer.{Answer, refuse, ok, _>>=_, if_then_else_}
+use Rattle.words.specs.Answer.{Answer, refuse, ok, _>>=_}
 use Rattle.words.specs.declared.pointer.Pointer.{Pointer}
 use Rattle.state.specs.declared.record.Frame.{Frame}
 use Rattle.state.specs.declared.record.Machine.{Machine}
@@ -28,10 +27,6 @@ readOf lengths rights bases words domain depth frame p =
 unfoldable pub fetchOf : List ℕ → List ℕ → List ℕ → List ℕ → ℕ → ℕ → ℕ → Answer ℕ
 fetchOf lengths rights bases words domain segment word =
     locateOf lengths rights bases domain flag.Execute segment word >>= (λ i. ok (getD words i 0))
-
--- the length of a segment
-abbrev pub lengthOf : List ℕ → ℕ → ℕ
-lengthOf lengths segment = if ltb segment 16 then getD lengths segment 0 else 0
 
 -- what a machine reads, and what it fetches at its location
 unfoldable pub readWord : Machine → List ℕ → Reader

@@ -1,8 +1,8 @@
 // The calls on a machine: a step, a run, a stretch. Any record and any memory may be lent.
 ghost use mathlib.Core.Path.{_≡_};
-ghost use Rattle.runs.specs.Resume.{endAnswer, ranAnswer};
 ghost use Rattle.processor.specs.Calls.{runCall, stretchCall, stepCall, stepAnswer};
 ghost use Rattle.processor.specs.Steps.{endingNumber, isHalted};
+ghost use Rattle.runs.specs.Run.{endAnswer, ranAnswer};
 use runs::call;
 use runs::outcome::End;
 use runs::outcome::Outcome;

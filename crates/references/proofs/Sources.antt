@@ -14,7 +14,8 @@ use Rattle.capabilities.specs.Search.{coversOf, firstOf}
 use Rattle.references.specs.declared.flag.Access.{Access}
 use Rattle.references.specs.Flag.{flagOf, isRead}
 use Rattle.references.specs.Static.{staticOf}
-use Rattle.references.specs.Live.{liveMatch, liveOf, passedOf, sourced, codeAnswer}
+use Rattle.references.specs.Live.{liveMatch, liveOf, passedOf, sourced}
+use Rattle.references.specs.Private.{codeAnswer}
 
 -- whether something was found
 abbrev found : Answer Capability → ℕ

@@ -3,3 +3,4 @@ pub mod Static
 pub mod Live
 pub mod Reference
 pub mod Check
+pub mod Private

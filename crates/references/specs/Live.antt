@@ -2,7 +2,7 @@
 use Prim.Native.Nat.{ℕ}
 use mathlib.Core.Bool.{Bool, not}
 use mathlib.Core.List.{List}
-use lib.Dec.{eqb, ltb}
+use lib.Dec.{eqb}
 use lib.ListN.{take}
 use Rattle.words.specs.Answer.{Answer, refuse, ok, _>>=_, if_then_else_}
 use Rattle.words.specs.Numbers.{noMatch, sourceFails}
@@ -40,7 +40,3 @@ passedOf depth frame segment word length read write =
 abbrev pub sourceAnswer : SourceAnswer → Answer ℕ
 sourceAnswer (variant.Source d) = ok d
 sourceAnswer (variant.Refused n) = refuse n
-
--- what a source given as a number stands for: none from 256 up
-abbrev pub codeAnswer : ℕ → Answer ℕ
-codeAnswer n = if ltb n 256 then ok n else refuse noMatch

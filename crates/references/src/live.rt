@@ -1,7 +1,8 @@
 // The live check (dynamic access validation), and arguments that are passed on.
 ghost use mathlib.Core.Path.{_≡_};
-ghost use Rattle.references.specs.Live.{liveOf, passedOf, sourceAnswer, codeAnswer};
+ghost use Rattle.references.specs.Live.{liveOf, passedOf, sourceAnswer};
 ghost use Rattle.references.specs.Flag.{isRead};
+ghost use Rattle.references.specs.Private.{codeAnswer};
 use crate::flag::Access;
 use crate::flag::asked;
 use crate::statics::static_check;

@@ -7,13 +7,13 @@ use lib.ListN.{length, take, replicate, length-replicate}
 use lib.Seq.{length-take-le}
 use Rattle.runs.specs.declared.outcome.End.the-variants as end
 use Rattle.runs.specs.declared.outcome.Outcome.{Outcome}
-use Rattle.runs.specs.Resume.{endAnswer}
 use Rattle.image_format.specs.Output.{written}
 use Rattle.image_format.proofs.Written.{then-length}
 use Rattle.entry.specs.ImageRun.{outcomeAnswer, imageRun, closed}
 use Rattle.entry.proofs.Outcomes.{outcome-refused, outcome-passed}
 use Rattle.report.specs.Text.{line}
 use Rattle.report.specs.Report.{endText, restText, answerText, reportOf, printedOf}
+use Rattle.runs.specs.Run.{endAnswer}
 
 pub printed : (xs ys bytes : List ℕ) (n : ℕ) → xs ≡ ys → n ≡ length xs → bytes ≡ written (replicate 96 0) 0 xs → record { bytes = bytes; length = n } ≡ printedOf ys
 printed xs ys bytes n e l w = (let z : record { bytes = bytes; length = n } ≡ printedOf xs = λ k. record { bytes = w k; length = l k } in z) ∙ ap printedOf e

@@ -17,13 +17,14 @@ use Rattle.instructions.specs.declared.cycle.Event.the-variants as event
 use Rattle.instructions.specs.Plan.{Plan, halt, move, store, enter, leave}
 use Rattle.memory.specs.Reader.{readOf, fetchOf}
 use Rattle.instructions.specs.Cycle.{Progress, ended, moved, entering, leaving, settled, planned, cycleOf, cycleWords}
-use Rattle.crossings.specs.Crossing.{Changes, enterParts, leaveCheck, leaveParts}
+use Rattle.crossings.specs.Crossing.{leaveCheck}
 use Rattle.arguments.specs.ArgumentList.{frameOf}
 use Rattle.state.specs.Record.{noPointer}
 use Rattle.local_runs.specs.LocalRun.{Paused, paused, afterCycle, localFrom}
-use Rattle.runs.specs.Resume.{Countable, Resumed, ends, goes, resumeAfter, resumeOf}
+use Rattle.runs.specs.Private.{Countable, Resumed, ends, goes, resumeAfter, resumeOf}
 use Rattle.runs.proofs.Free.{Free, plan-free}
 use Rattle.local_runs.proofs.LocalRuns.{cycle-length}
+use Rattle.crossings.specs.Parts.{Changes, enterParts, leaveParts}
 
 -- an event that ends a local run before the limit, after low instructions at least, and finds a frame free where it enters
 abbrev pub Fine : ℕ → ℕ → ℕ → ℕ → Event → Type 0

@@ -25,12 +25,13 @@ use Rattle.instructions.specs.Instruction.{planOf}
 use Rattle.instructions.specs.Cycle.{Progress, ended, moved, entering, leaving, movedRegisters, settled, settledWords, planned, cycleOf, cycleWords}
 use Rattle.memory.proofs.Answers.{accept-then}
 use Rattle.arguments.specs.ArgumentList.{frameOf}
-use Rattle.crossings.specs.Crossing.{Changes, entered, left, enterOf, leaveOf, leaveCheck, enterParts, leaveParts}
+use Rattle.crossings.specs.Crossing.{entered, left, enterOf, leaveOf, leaveCheck}
 use Rattle.runs.specs.Step.{Act, cross, Done, done, resolve, decide, commit, execute}
 use Rattle.runs.specs.Step.{proceeded}
 use Rattle.runs.specs.Run.{Ran, ran, Ending, halted, spent, crossed, faulted, after, runFrom}
 use Rattle.local_runs.specs.LocalRun.{Paused, paused, afterCycle, localFrom}
-use Rattle.runs.specs.Resume.{Resumed, ends, goes, resumeAfter, resumeOf}
+use Rattle.runs.specs.Private.{Resumed, ends, goes, resumeAfter, resumeOf}
+use Rattle.crossings.specs.Parts.{Changes, enterParts, leaveParts}
 
 -- a machine with other registers and pointers
 abbrev pub withParts : Machine → Registers → List Pointer → Machine

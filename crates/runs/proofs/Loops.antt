@@ -11,16 +11,16 @@ use Rattle.state.specs.declared.record.Frame.{Frame}
 use Rattle.state.specs.declared.record.Machine.{Machine}
 use Rattle.state.specs.Record.{inUse, liveFrame}
 use Rattle.state.specs.Bases.{basesOf}
-use Rattle.crossings.specs.Crossing.{Changes}
 use Rattle.runs.specs.declared.outcome.End.{End}
 use Rattle.runs.specs.declared.outcome.End.the-variants as end
 use Rattle.local_runs.specs.declared.Pause.{Pause}
 use Rattle.runs.specs.declared.resume.Crossing.{Crossing}
-use Rattle.runs.specs.Run.{Ran, ran, crossed, runFrom}
+use Rattle.runs.specs.Run.{Ran, ran, crossed, runFrom, endAnswer}
 use Rattle.local_runs.specs.LocalRun.{Paused, localFrom}
-use Rattle.runs.specs.Resume.{endAnswer, Resumed, resumeBy, resumeAnswer, resumeOf, Countable}
+use Rattle.runs.specs.Private.{Resumed, resumeBy, resumeAnswer, resumeOf, Countable}
 use Rattle.runs.proofs.Cycling.{withParts, crossedTo, continued, localAt, resumeLocal, run-resumes}
 use Rattle.runs.proofs.Bounds.{Fine, fine-countable, local-fine, local-length, Room, resume-room}
+use Rattle.crossings.specs.Parts.{Changes}
 
 -- a run has come to a machine and its words after n instructions
 pub record Runs (stretch : Bool) (limit : ℕ) (m₀ : Machine) (words₀ : List ℕ) (m : Machine) (words : List ℕ) (n : ℕ) : Type 0 where

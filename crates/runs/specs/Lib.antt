@@ -1,3 +1,3 @@
 pub mod Step
 pub mod Run
-pub mod Resume
+pub mod Private

@@ -9,6 +9,9 @@ use Rattle.words.specs.Numbers.{memoryTooShort, notSound}
 use Rattle.state.specs.declared.record.Machine.{Machine}
 use Rattle.soundness.specs.Sound.{soundTest}
 use Rattle.runs.specs.Step.{Completion, stopped, proceeded, crossing, Done, execute}
+use Rattle.runs.specs.declared.outcome.End.{End}
+use Rattle.runs.specs.declared.outcome.End.the-variants as end
+use Rattle.runs.specs.declared.outcome.Outcome.{Outcome}
 
 -- how a run ends; only a stretch ends at a crossing, and a call that is refused runs nothing
 pub data Ending : Type 0 where
@@ -47,3 +50,14 @@ judged m words = if soundTest m then (if leb 8192 (length words) then 0 else mem
 -- a refused call leaves record and words
 unfoldable pub calledOf : (Machine → List ℕ → Ran) → Machine → List ℕ → Ran
 calledOf run m words = if eqb (judged m words) 0 then run m words else ran m words 0 (refused (judged m words))
+
+-- what the code's answers stand for
+abbrev pub endAnswer : End → Ending
+endAnswer end.Halted = halted
+endAnswer (end.Faulted n) = faulted n
+endAnswer end.Spent = spent
+endAnswer end.Crossed = crossed
+endAnswer (end.Refused n) = refused n
+
+abbrev pub ranAnswer : Outcome → List ℕ → Ran
+ranAnswer o words = ran (o .machine) words (o .count) (endAnswer (o .end))

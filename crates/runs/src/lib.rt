@@ -4,8 +4,7 @@ mod resume;
 mod running;
 
 ghost use mathlib.Core.Path.{_≡_};
-ghost use Rattle.runs.specs.Run.{runFrom, judged, calledOf};
-ghost use Rattle.runs.specs.Resume.{ranAnswer};
+ghost use Rattle.runs.specs.Run.{runFrom, judged, calledOf, ranAnswer};
 use crate::outcome::End;
 use crate::outcome::Outcome;
 use crate::running::run_on;

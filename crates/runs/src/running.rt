@@ -1,8 +1,7 @@
 // The loop that runs a machine.
 ghost use mathlib.Core.Path.{_≡_};
 ghost use Prim.Native.Nat.{_≤_};
-ghost use Rattle.runs.specs.Run.{runFrom};
-ghost use Rattle.runs.specs.Resume.{ranAnswer};
+ghost use Rattle.runs.specs.Run.{runFrom, ranAnswer};
 use crate::outcome::End;
 use crate::outcome::Outcome;
 use crate::resume::resume;

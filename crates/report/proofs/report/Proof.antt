@@ -7,7 +7,6 @@ use mathlib.Core.Logic.{⊎-elim}
 use mathlib.Core.Path.{sym, _∙_}
 use lib.ListN.{replicate, length-replicate}
 use types.Run.{OneOf}
-use Rattle.runs.specs.Resume.{endAnswer}
 use Rattle.report.specs.Text.{line}
 use Rattle.report.specs.Report.{endText, restText}
 use Rattle.report.proofs.Puts.{puts-more}
@@ -15,6 +14,7 @@ use Rattle.report.proofs.Reports.{printed, counts, report-refused, repo
 use borrow.Author.Needs.{needs}
 use Rattle.report.proofs.report.Statement.{statement}
 use Rattle.report.proofs.report.Tie as tie
+use Rattle.runs.specs.Run.{endAnswer}
 
 -- the other endings are no refusal
 another : OneOf (0 ∷ 1 ∷ 2 ∷ 3 ∷ []) 4 → ⊥

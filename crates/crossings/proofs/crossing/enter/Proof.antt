@@ -16,19 +16,15 @@ use Rattle.pointer_registers.proofs.pointer_at.Reads as pointer-at-reads
 use Rattle.pointer_registers.proofs.stack_of.Reads as stack-of-reads
 use Rattle.pointer_registers.proofs.with_base.Reads as with-base-reads
 
--- src/crossing.rt:107:82
 pointer-at-requires : tie.Need-pointer-at-requires
 pointer-at-requires c κs = search needs
 
--- src/crossing.rt:107:107
 pointer-at-requires-2 : tie.Need-pointer-at-requires-2
 pointer-at-requires-2 c κs = search needs
 
--- src/crossing.rt:107:9
 make-frame-requires : tie.Need-make-frame-requires
 make-frame-requires c κs = search needs
 
--- src/crossing.rt:110:9
 -- the frame that was made is the definition's
 made : (c : tie.After-make-frame) → let a = c .before .before .before .before .args in
     frameAnswer (c .make-frame .result) ≡ frameOf (readOf (a .lengths .now) (a .rights .now) (a .bases .now) (a .words .now) (a .r .domain) (a .depth) (a .frame)) (getD (a .pointers) 0 noPointer) (getD (a .pointers) 1 noPointer) (a .r .domain) (a .depth) (a .frame)
@@ -39,27 +35,21 @@ returns c =
     let m = c .before .before in
     simp (← made m, c .if1 .taken)
 
--- src/crossing.rt:118:9
 gate-domain-of-requires : tie.Need-gate-domain-of-requires
 gate-domain-of-requires c κs = search needs
 
--- src/crossing.rt:119:9
 with-tag-requires : tie.Need-with-tag-requires
 with-tag-requires c κs = search needs
 
--- src/crossing.rt:120:35
 stack-of-requires : tie.Need-stack-of-requires
 stack-of-requires c κs = search needs
 
--- src/crossing.rt:120:9
 with-base-requires : tie.Need-with-base-requires
 with-base-requires c κs = search needs
 
--- src/crossing.rt:121:9
 at-place-requires : tie.Need-at-place-requires
 at-place-requires c κs = search needs
 
--- src/crossing.rt:104:1
 returns-2 : tie.Need-returns-2
 returns-2 c =
     let b = c .before in

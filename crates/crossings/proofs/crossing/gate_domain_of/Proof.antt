@@ -5,15 +5,12 @@ use Rattle.crossings.proofs.crossing.gate_domain_of.Tie as tie
 use Rattle.crossings.proofs.crossing.gate_domain_of.Reads as reads
 use Rattle.crossings.proofs.crossing.gate_domain_of.Lts as lts
 
--- src/crossing.rt:35:9
 returns : tie.Need-returns
 returns c = simp (le-ltb _ _ (c .if1 .taken))
 
--- src/crossing.rt:38:5
 element-copy-out-result : tie.Need-element-copy-out-result
 element-copy-out-result c = search needs
 
--- src/crossing.rt:31:1
 returns-2 : tie.Need-returns-2
 returns-2 c = simp (lt-ltb _ _ (c .before .if1 .left))
 

@@ -12,41 +12,32 @@ use Rattle.pointer_registers.proofs.stack_of.Reads as stack-of-reads
 use Rattle.pointer_registers.proofs.with_base.Reads as with-base-reads
 use Rattle.pointer_registers.proofs.with_pointer.Reads as with-pointer-reads
 
--- src/crossing.rt:151:61
 pointer-at-requires : tie.Need-pointer-at-requires
 pointer-at-requires c κs = search needs
 
--- src/crossing.rt:151:9
 leave-check-requires : tie.Need-leave-check-requires
 leave-check-requires c κs = search needs
 
--- src/crossing.rt:153:9
 returns : tie.Need-returns
 returns c =
     let l = c .before in
     simp (← l .before .pointer-at .ensures, ← l .leave-check .ensures, ne-eqb _ _ (c .if1 .taken))
 
--- src/crossing.rt:161:9
 with-pointer-requires : tie.Need-with-pointer-requires
 with-pointer-requires c κs = search needs
 
--- src/crossing.rt:162:37
 stack-of-requires : tie.Need-stack-of-requires
 stack-of-requires c κs = search needs
 
--- src/crossing.rt:162:9
 with-base-requires : tie.Need-with-base-requires
 with-base-requires c κs = search needs
 
--- src/crossing.rt:163:9
 at-place-requires : tie.Need-at-place-requires
 at-place-requires c κs = search needs
 
--- src/crossing.rt:165:16
 free-frame-requires : tie.Need-free-frame-requires
 free-frame-requires c κs = search needs
 
--- src/crossing.rt:148:1
 returns-2 : tie.Need-returns-2
 returns-2 c =
     let g = c .before in

@@ -9,25 +9,20 @@ use Rattle.crossings.proofs.crossing.leave_check.Lts as lts
 use Rattle.crossings.proofs.crossing.same_place.Reads as same-place-reads
 use Rattle.references.proofs.statics.static_check.Reads as static-check-reads
 
--- src/crossing.rt:136:9
 returns : tie.Need-returns
 unfolding leaveCheck
 returns c = simp (lt-leb _ _ (c .if1 .taken))
 
--- src/crossing.rt:138:9
 same-place-requires : tie.Need-same-place-requires
 same-place-requires c κs = search needs
 
--- src/crossing.rt:139:9
 returns-2 : tie.Need-returns-2
 unfolding leaveCheck
 returns-2 c = let s = c .before in simp (le-leb _ _ (s .before .if1 .left), sym (s .same-place .ensures) ∙ not-true _ (c .if2 .taken))
 
--- src/crossing.rt:141:9
 same-place-requires-2 : tie.Need-same-place-requires-2
 same-place-requires-2 c κs = search needs
 
--- src/crossing.rt:142:9
 returns-3 : tie.Need-returns-3
 unfolding leaveCheck
 returns-3 c =
@@ -36,11 +31,9 @@ returns-3 c =
     let s = e .before in
     simp (le-leb _ _ (s .before .if1 .left), sym (s .same-place .ensures) ∙ not-false _ (e .if2 .left), sym (t .same-place2 .ensures) ∙ not-true _ (c .if3 .taken))
 
--- src/crossing.rt:144:5
 static-check-requires : tie.Need-static-check-requires
 static-check-requires c κs = search needs
 
--- src/crossing.rt:132:1
 returns-4 : tie.Need-returns-4
 unfolding leaveCheck
 returns-4 c =

@@ -4,11 +4,9 @@ use Rattle.crossings.proofs.crossing.same_place.Tie as tie
 use Rattle.crossings.proofs.crossing.same_place.Reads as reads
 use Rattle.crossings.proofs.crossing.same_place.Lts as lts
 
--- src/crossing.rt:46:9
 returns : tie.Need-returns
 returns c = simp (ne-eqb _ _ (c .if1 .taken))
 
--- src/crossing.rt:42:1
 returns-2 : tie.Need-returns-2
 returns-2 c = simp (eq-eqb _ _ (c .before .before .if1 .left))
 

@@ -4,11 +4,11 @@ use Prim.Native.Nat.{ℕ, _+_}
 use native.Mathlib.Omega.{arith}
 use Rattle.runs.specs.declared.outcome.End.{End}
 use Rattle.runs.specs.declared.outcome.End.the-variants as end
-use Rattle.runs.specs.Resume.{endAnswer}
 use Rattle.host.specs.Runs.{endCode}
 use borrow.Author.Needs.{needs}
 use Rattle.host.proofs.run_machine.code.Statement.{statement}
 use Rattle.host.proofs.run_machine.code.Tie as tie
+use Rattle.runs.specs.Run.{endAnswer}
 
 at-halt : (n : ℕ) {e : End} → e ≡ end.Halted → n ≡ endCode (endAnswer e) + n
 at-halt n h = rw h (let z : n ≡ 0 + n = omega arith in z)

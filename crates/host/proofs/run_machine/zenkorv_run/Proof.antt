@@ -1,10 +1,10 @@
 -- `host::run_machine::zenkorv_run` meets its contract.
 use mathlib.Core.Path.{_≡_, refl, sym, ap, _∙_}
 use borrow.Author.Needs.{needs}
-use Rattle.runs.specs.Resume.{ranAnswer}
 use Rattle.host.proofs.Running.{without-room, with-room}
 use Rattle.host.proofs.run_machine.zenkorv_run.Statement.{statement}
 use Rattle.host.proofs.run_machine.zenkorv_run.Tie as tie
+use Rattle.runs.specs.Run.{ranAnswer}
 
 returns : tie.Need-returns
 returns c = let a = c .before .before .before .args in without-room (a .bytes .now) (a .words .now) (a .limit) (a .stretches) (c .if1 .taken)

@@ -1,9 +1,9 @@
 -- `image_reader::judge::after_segments` meets its contract.
 use mathlib.Core.Path.{_∙_}
-use Rattle.image_reader.specs.Rows.{afterSegments}
 use borrow.Author.Needs.{needs}
 use Rattle.image_reader.proofs.judge.after_segments.Statement.{statement}
 use Rattle.image_reader.proofs.judge.after_segments.Tie as tie
+use Rattle.image_reader.specs.Private.{afterSegments}
 
 domain-chunks-requires : tie.Need-domain-chunks-requires
 domain-chunks-requires c κs = search needs

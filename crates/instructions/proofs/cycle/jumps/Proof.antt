@@ -1,9 +1,10 @@
 -- `instructions::cycle::jumps` meets its contract.
 use mathlib.Core.Path.{refl}
 use borrow.Author.Tests.{ne-eqb}
-use Rattle.instructions.specs.Instruction.{takenOf, jumpsOf}
+use Rattle.instructions.specs.Instruction.{takenOf}
 use Rattle.instructions.proofs.cycle.jumps.Statement.{statement}
 use Rattle.instructions.proofs.cycle.jumps.Tie as tie
+use Rattle.instructions.specs.Private.{jumpsOf}
 
 returns : tie.Need-returns
 unfolding jumpsOf

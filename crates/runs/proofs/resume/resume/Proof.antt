@@ -8,7 +8,7 @@ use Rattle.words.specs.declared.pointer.Pointer.{Pointer}
 use Rattle.state.specs.declared.record.Frame.{Frame}
 use Rattle.state.specs.declared.record.Registers.{Registers}
 use Rattle.instructions.specs.declared.cycle.Event.{Event}
-use Rattle.runs.specs.Resume.{Countable, resumeAnswer, resumeAfter, resumeOf}
+use Rattle.runs.specs.Private.{Countable, resumeAnswer, resumeAfter, resumeOf}
 use Rattle.runs.proofs.resume.resume.Statement.{statement}
 use Rattle.runs.proofs.resume.resume.Tie as tie
 

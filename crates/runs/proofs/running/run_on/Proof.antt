@@ -12,8 +12,7 @@ use Rattle.state.specs.Bases.{basesOf}
 use Rattle.state.specs.Record.{liveFrame, noFrame}
 use Rattle.runs.specs.declared.outcome.Outcome.{Outcome}
 use Rattle.runs.specs.declared.outcome.End.the-variants as end
-use Rattle.runs.specs.Run.{Ran, ran, runFrom}
-use Rattle.runs.specs.Resume.{ranAnswer, endAnswer}
+use Rattle.runs.specs.Run.{Ran, ran, runFrom, ranAnswer, endAnswer}
 use Rattle.runs.proofs.Loops.{Runs, starts, Pauses, pauses, countable, ends-so, crossed-so, bounds, goes-on}
 use Rattle.runs.proofs.running.run_on.Statement.{statement}
 use Rattle.runs.proofs.running.run_on.Tie as tie

@@ -1,18 +1,68 @@
--- The rows of a layout that the chunks of kinds 2 and 3 give, and what the code's answers stand for.
-use Prim.Native.Nat.{ℕ}
+-- Definitions that only contracts of private functions cite.
+use Prim.Native.Nat.{ℕ, _+_}
 use mathlib.Core.List.{List, map}
-use lib.ListN.{length, drop}
+use lib.ListN.{take, drop, length}
 use Rattle.words.specs.Answer.{Answer, refuse, ok, _>>=_, _>>_}
-use Rattle.state.specs.declared.record.Layout.{Layout}
-use Rattle.image_format.specs.Chunk.{Read}
+use Rattle.image_format.specs.declared.Head.{Head}
+use Rattle.image_format.specs.Bytes.{wordsOf}
+use Rattle.image_format.specs.Chunk.{Read, chunkAt}
 use Rattle.image_format.specs.Segment.{Segment}
 use Rattle.image_format.specs.Domain.{Domain, domainsOf}
+use Rattle.image_reader.specs.declared.chunk.HeaderAnswer.{HeaderAnswer}
+use Rattle.image_reader.specs.declared.chunk.Verdict.{Verdict}
+use Rattle.image_reader.specs.declared.head.HeadAnswer.{HeadAnswer}
+use Rattle.image_reader.specs.declared.segment.SegmentAnswer.{SegmentAnswer}
+use Rattle.image_reader.specs.declared.domain.DomainAnswer.{DomainAnswer}
+use Rattle.state.specs.declared.record.Layout.{Layout}
 use Rattle.image_format.specs.Image.{padded, allRows, endOf}
-use Rattle.image_format.specs.declared.Head.{Head}
 use Rattle.image_reader.specs.declared.segment.Place.{Place}
-use Rattle.image_reader.specs.declared.segment.Place.the-variants as place
 use Rattle.image_reader.specs.declared.segment.Segments.{Segments}
 use Rattle.image_reader.specs.declared.domain.Domains.{Domains}
+use Rattle.image_reader.specs.declared.judge.Judged.{Judged}
+use Rattle.image_reader.specs.declared.chunk.HeaderAnswer.the-variants as header
+use Rattle.image_reader.specs.declared.chunk.Verdict.the-variants as verdict
+use Rattle.image_reader.specs.declared.head.HeadAnswer.the-variants as head
+use Rattle.image_reader.specs.declared.segment.SegmentAnswer.the-variants as segment
+use Rattle.image_reader.specs.declared.domain.DomainAnswer.the-variants as domain
+use Rattle.image_reader.specs.declared.segment.Place.the-variants as place
+
+-- the length in a header, or a refusal
+abbrev pub headerAnswer : HeaderAnswer → Answer ℕ
+headerAnswer (header.Length n) = ok n
+headerAnswer (header.Refused n) = refuse n
+
+-- a verdict
+abbrev pub verdictAnswer : Verdict → Answer (Unit {0})
+verdictAnswer verdict.Passed = ok tt
+verdictAnswer (verdict.Refused n) = refuse n
+
+-- the chunk of length n, where the code passed it
+abbrev pub chunkAnswer : ℕ → List ℕ → Verdict → Answer (Read (List ℕ))
+chunkAnswer n bytes v = verdictAnswer v >> ok (chunkAt n bytes)
+
+-- a head, or a refusal
+abbrev pub fieldsAnswer : HeadAnswer → Answer Head
+fieldsAnswer (head.Head h) = ok h
+fieldsAnswer (head.Refused n) = refuse n
+
+-- the same for the whole chunk, which has 12 bytes
+abbrev pub headAnswer : List ℕ → HeadAnswer → Answer (Read Head)
+headAnswer bytes a = fieldsAnswer a >>= (λ h. ok (record { value = h; rest = drop 12 bytes }))
+
+-- a row of a chunk that begins at a place of the image
+abbrev pub segmentAnswer : List ℕ → ℕ → SegmentAnswer → Answer (Read Segment)
+segmentAnswer image at (segment.Row r) =
+    ok (record {
+      value = record { gates = r .gates; domain = r .domain; words = wordsOf (r .length) (drop (at + 8) image) };
+      rest = drop (r .next) image;
+    })
+segmentAnswer image at (segment.Refused n) = refuse n
+
+-- a domain of a chunk that begins at a place of the image
+abbrev pub domainAnswer : List ℕ → ℕ → ℕ → DomainAnswer → Answer (Read Domain)
+domainAnswer image at segments (domain.Stack s) =
+    ok (record { value = record { stack = s; rights = take segments (drop (at + 5) image) }; rest = drop (at + 5 + segments) image })
+domainAnswer image at segments (domain.Refused n) = refuse n
 
 -- the arrays of the segments, and the bytes after them
 pub record SegmentRows : Type 0 where
@@ -85,3 +135,7 @@ rowsLayout h s d =
 -- the layout, where the segments' rows are known
 unfoldable pub afterSegments : Head → SegmentRows → Answer Layout
 afterSegments h s = domainRows (domainsOf (h .domains) (h .segments) (s .rest)) >>= (λ d. endOf (d .rest) >> ok (rowsLayout h s d))
+
+-- what the code's answer stands for
+abbrev pub judgedAnswer : Judged → Answer Layout
+judgedAnswer j = verdictAnswer (j .verdict) >> ok (j .layout)

@@ -1,37 +1,24 @@
--- What a run comes to after a local run: it ends, or it goes on from a crossing.
+-- Definitions that only contracts of private functions cite.
 use Prim.Native.Nat.{ℕ, _+_, _-_, _<_}
-use mathlib.Core.Bool.{Bool, true, false}
 use mathlib.Core.List.{List}
-use lib.ListN.{getD, set}
-use Rattle.words.specs.Answer.{Answer, refuse, ok, if_then_else_}
+use lib.ListN.{getD}
+use Rattle.words.specs.Answer.{Answer, refuse, ok}
 use Rattle.words.specs.declared.pointer.Pointer.{Pointer}
 use Rattle.state.specs.declared.record.Frame.{Frame}
 use Rattle.state.specs.declared.record.Registers.{Registers}
-use Rattle.state.specs.declared.record.Machine.{Machine}
 use Rattle.state.specs.Record.{noPointer}
 use Rattle.instructions.specs.declared.cycle.Event.{Event}
 use Rattle.instructions.specs.declared.cycle.Event.the-variants as event
 use Rattle.memory.specs.Reader.{readOf}
 use Rattle.arguments.specs.ArgumentList.{frameOf}
-use Rattle.crossings.specs.Crossing.{Changes, enterParts, leaveCheck, leaveParts}
+use Rattle.crossings.specs.Crossing.{leaveCheck}
 use Rattle.runs.specs.declared.outcome.End.{End}
 use Rattle.runs.specs.declared.outcome.End.the-variants as end
-use Rattle.runs.specs.declared.outcome.Outcome.{Outcome}
 use Rattle.runs.specs.declared.resume.Crossing.{Crossing}
-use Rattle.runs.specs.Run.{Ending, halted, spent, crossed, faulted, refused, Ran, ran, runFrom}
+use Rattle.runs.specs.Run.{Ending, halted, spent, faulted, refused}
+use Rattle.crossings.specs.Parts.{Changes, enterParts, leaveParts}
 
--- what the code's answers stand for
-abbrev pub endAnswer : End → Ending
-endAnswer end.Halted = halted
-endAnswer (end.Faulted n) = faulted n
-endAnswer end.Spent = spent
-endAnswer end.Crossed = crossed
-endAnswer (end.Refused n) = refused n
-
-abbrev pub ranAnswer : Outcome → List ℕ → Ran
-ranAnswer o words = ran (o .machine) words (o .count) (endAnswer (o .end))
-
--- the count, then for a crossing the row that its frame goes into and the frames in use after it
+-- what a run comes to after a local run: it ends; or it goes on from a crossing, with the count, the row of its frame, the frames in use after it
 pub data Resumed : Type 0 where
   ends : Registers → List Pointer → ℕ → Ending → Resumed
   goes : ℕ → ℕ → ℕ → Changes → Resumed

@@ -1,0 +1,38 @@
+-- Definitions that only contracts of private functions cite.
+use Prim.Native.Nat.{ℕ, _+_}
+use mathlib.Core.Bool.{Bool, true, not}
+use mathlib.Core.List.{List}
+use lib.Dec.{eqb}
+use Rattle.words.specs.Answer.{Answer, ok, _>>=_, if_then_else_}
+use Rattle.words.specs.declared.pointer.Pointer.{Pointer}
+use Rattle.state.specs.declared.record.Registers.{Registers}
+use Rattle.pointer_registers.specs.Stack.{withBase}
+use Rattle.instructions.specs.Plan.{Plan}
+use mathlib.Core.Path.{_≡_}
+use Rattle.state.specs.declared.record.Frame.{Frame}
+use Rattle.instructions.specs.declared.cycle.Cycle.{Cycle}
+use Rattle.instructions.specs.Instruction.{operateOf, JUMP, RET, takenOf}
+use Rattle.instructions.specs.Cycle.{Progress, moved, entering, cycleAnswer, movedRegisters, settled}
+use Rattle.references.specs.declared.flag.Access.the-variants as access
+use Rattle.instructions.specs.declared.cycle.Event.the-variants as event
+
+-- whether an opcode jumps to an effective pointer of this tag
+unfoldable pub jumpsOf : ℕ → ℕ → Bool → Bool
+jumpsOf opcode a tag = if eqb opcode JUMP then true else (if eqb opcode RET then not tag else takenOf opcode a)
+
+-- what a cycle's answer stands for, whatever the pointers are
+abbrev pub Cycles : Cycle → (List Pointer → Answer Progress) → Type 0
+Cycles t f = (pointers : List Pointer) → cycleAnswer pointers t ≡ f pointers
+
+-- LOAD, ADD or SUB with the word read
+abbrev pub loaded : Registers → List Pointer → ℕ → Answer ℕ → Answer Progress
+loaded r pointers opcode answer = answer >>= (λ w. ok (moved (movedRegisters r (operateOf opcode (r .a) w) (r .segment) (r .word + 1)) pointers))
+
+-- a call whose checks are made
+abbrev pub called : Registers → List Pointer → ℕ → Pointer → Answer Bool → Answer Progress
+called r pointers stack p way =
+    way >>= (λ inside. if inside then ok (moved (movedRegisters r (r .a) (p .segment) (p .word)) (withBase pointers stack)) else ok (entering p))
+
+-- a plan carried out, where there is one
+abbrev pub settledAnswer : List ℕ → List ℕ → List ℕ → List ℕ → ℕ → Frame → Registers → List Pointer → Answer Plan → Answer Progress
+settledAnswer lengths rights bases words depth frame r pointers plan = plan >>= settled lengths rights bases words depth frame r pointers

@@ -1,0 +1,10 @@
+-- Definitions that only contracts of private functions cite.
+use Prim.Native.Nat.{ℕ}
+use lib.Dec.{ltb}
+use Rattle.words.specs.Answer.{Answer, refuse, ok, if_then_else_}
+use Rattle.words.specs.Numbers.{noMatch}
+use Rattle.references.specs.declared.live.SourceAnswer.the-variants as variant
+
+-- what a source given as a number stands for: none from 256 up
+abbrev pub codeAnswer : ℕ → Answer ℕ
+codeAnswer n = if ltb n 256 then ok n else refuse noMatch
