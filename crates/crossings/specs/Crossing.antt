@@ -10,13 +10,12 @@ use Rattle.words.specs.declared.pointer.Pointer.{Pointer}
 use Rattle.state.specs.declared.record.Frame.{Frame}
 use Rattle.state.specs.declared.record.Registers.{Registers}
 use Rattle.state.specs.declared.record.Machine.{Machine}
-use Rattle.state.specs.Record.{noPointer, inUse, liveFrame, freeFrame}
+use Rattle.state.specs.Record.{noPointer, inUse, liveFrame, freeFrame, ofSegment}
 use Rattle.references.specs.declared.flag.Flag.the-variants as flag
 use Rattle.references.specs.Static.{staticOf}
 use Rattle.references.specs.Reference.{accept}
 use Rattle.memory.specs.Reader.{Reader}
 use Rattle.pointer_registers.specs.Stack.{withBase, stackOf}
-use Rattle.transfers.specs.Transfer.{gateDomainOf}
 use Rattle.arguments.specs.ArgumentList.{frameOf}
 
 -- a pointer with its tag on
@@ -34,7 +33,7 @@ atPlace r p domain = record { a = r .a; word = p .word; segment = p .segment; do
 -- the machine after a call through the gate at p with a frame
 unfoldable pub entered : Machine → Pointer → Frame → Machine
 entered m p f =
-    let domain = gateDomainOf (m .layout .gatedomains) (p .segment) in
+    let domain = ofSegment (m .layout .gatedomains) (p .segment) in
     record {
       layout = m .layout;
       registers = atPlace (m .registers) p domain;

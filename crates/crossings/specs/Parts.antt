@@ -6,11 +6,10 @@ use Rattle.words.specs.Answer.{Answer, refuse, ok, _>>=_, _>>_, if_then_else_}
 use Rattle.words.specs.declared.pointer.Pointer.{Pointer}
 use Rattle.state.specs.declared.record.Frame.{Frame}
 use Rattle.state.specs.declared.record.Registers.{Registers}
-use Rattle.state.specs.Record.{freeFrame}
+use Rattle.state.specs.Record.{freeFrame, ofSegment}
 use Rattle.references.specs.declared.flag.Flag.the-variants as flag
 use Rattle.references.specs.Reference.{accept}
 use Rattle.pointer_registers.specs.Stack.{withBase, stackOf}
-use Rattle.transfers.specs.Transfer.{gateDomainOf}
 use Rattle.crossings.specs.declared.crossing.Crossed.{Crossed}
 use Rattle.crossings.specs.Crossing.{atPlace, withTag}
 
@@ -29,8 +28,8 @@ abbrev pub enterParts : List ℕ → List ℕ → Registers → List Pointer →
 enterParts gatedomains stacks r pointers p made =
     made >>= (λ f. ok (record {
       frame = f;
-      pointers = withBase (withTag pointers) (stackOf stacks (gateDomainOf gatedomains (p .segment)));
-      registers = atPlace r p (gateDomainOf gatedomains (p .segment));
+      pointers = withBase (withTag pointers) (stackOf stacks (ofSegment gatedomains (p .segment)));
+      registers = atPlace r p (ofSegment gatedomains (p .segment));
     }))
 
 -- what a return to p from the frame f changes, by the number of its checks

@@ -1,9 +1,8 @@
 // Calls through a gate and returns across domains (cross-domain calls and returns).
 ghost use mathlib.Core.Path.{_≡_};
 ghost use lib.ListN.{getD};
-ghost use Rattle.state.specs.Record.{noPointer};
+ghost use Rattle.state.specs.Record.{noPointer, ofSegment};
 ghost use Rattle.memory.specs.Reader.{readOf};
-ghost use Rattle.transfers.specs.Transfer.{gateDomainOf};
 ghost use Rattle.arguments.specs.ArgumentList.{frameOf};
 ghost use Rattle.crossings.specs.Crossing.{samePlace, atPlace, withTag, leaveCheck};
 ghost use Rattle.crossings.specs.Parts.{crossedAnswer, enterParts, leaveParts};
@@ -30,7 +29,7 @@ pub struct Crossed {
 
 // The gate domain of a segment; 0 past the sixteenth.
 fn gate_domain_of(gatedomains: &[u8; 16], segment: u8) -> u8
-    ensures { λ r. ⌜ r ≡ gateDomainOf (now (gatedomains .entry)) segment ⌝ }
+    ensures { λ r. ⌜ r ≡ ofSegment (now (gatedomains .entry)) segment ⌝ }
 {
     if 16 <= segment {
         return 0;

@@ -12,7 +12,7 @@ use Rattle.words.specs.declared.pointer.Pointer.{Pointer}
 use Rattle.state.specs.declared.record.Layout.{Layout}
 use Rattle.state.specs.declared.record.Frame.{Frame}
 use Rattle.state.specs.declared.record.Machine.{Machine}
-use Rattle.state.specs.Record.{noPointer, inUse, freeFrame}
+use Rattle.state.specs.Record.{noPointer, inUse, freeFrame, ofSegment}
 use Rattle.soundness.proofs.Facts.{PointerSound, PointersSound, FrameSound, LayoutSound, Sound}
 use Rattle.soundness.proofs.FreshSound.{free-frame}
 use Rattle.soundness.proofs.Kept.{pointer-set, frame-pushed, frame-popped}
@@ -20,7 +20,6 @@ use Rattle.references.specs.declared.flag.Flag.the-variants as flag
 use Rattle.references.specs.Static.{exists, staticOf}
 use Rattle.references.proofs.Passes.{both, static-exists}
 use Rattle.memory.specs.Reader.{Reader}
-use Rattle.transfers.specs.Transfer.{gateDomainOf}
 use Rattle.pointer_registers.specs.Stack.{stackOf}
 use Rattle.crossings.specs.Crossing.{tagged, withTag, entered, left, samePlace, leaveCheck, enterOf, leaveOf}
 use Rattle.executions.proofs.Says.{Says, says-bind, says-accept}
@@ -42,7 +41,7 @@ stack-most l s d = by (ltb d 8) refl
     by true e = omega (arith, s .stacks d (ltb-true d 8 e), s .segments)
     by false e = omega arith
 
-gate-domain : (l : Layout) → LayoutSound l → (segment : ℕ) → gateDomainOf (l .gatedomains) segment < l .domains
+gate-domain : (l : Layout) → LayoutSound l → (segment : ℕ) → ofSegment (l .gatedomains) segment < l .domains
 gate-domain l s segment = by (ltb segment 16) refl
   where
     by : (t : Bool) → ltb segment 16 ≡ t → (if t then getD (l .gatedomains) segment 0 else 0) < l .domains
@@ -80,7 +79,7 @@ module _ (m : Machine) (w : Whole m) where
   entered-whole : (p : Pointer) (f : Frame) → PointerSound p → m .depth < 8 → FrameSound domains f → Whole (entered m p f)
   unfolding entered
   entered-whole p f sp less sf =
-      let d = gateDomainOf (m .layout .gatedomains) (p .segment) in
+      let d = ofSegment (m .layout .gatedomains) (p .segment) in
       let a = s .pointers 0 (omega arith) in
       let on : PointersSound (withTag (m .pointers)) =
       pointer-set (m .pointers) 0 (tagged (getD (m .pointers) 0 noPointer)) (s .pointers) (record { segment = a .segment; word = a .word }) in

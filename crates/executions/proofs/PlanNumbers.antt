@@ -16,7 +16,7 @@ use Rattle.words.specs.declared.mode.Mode.{Mode}
 use Rattle.state.specs.declared.record.Capability.{Capability}
 use Rattle.state.specs.declared.record.Frame.{Frame}
 use Rattle.state.specs.declared.record.Registers.{Registers}
-use Rattle.state.specs.Record.{noPointer, noCapability}
+use Rattle.state.specs.Record.{noPointer, noCapability, ofSegment}
 use Rattle.references.specs.declared.flag.Flag.the-variants as flag
 use Rattle.references.specs.Flag.{has}
 use Rattle.references.specs.Static.{exists, rightsOf, staticOf}
@@ -26,7 +26,7 @@ use Rattle.memory.specs.Reader.{Reader}
 use Rattle.addressing.specs.Effective.{displacedBy, throughOf, effectiveOf}
 use Rattle.instructions.specs.Plan.{enter, leave}
 use Rattle.instructions.specs.Instruction.{jumpOf, callOf, returnOf, loadOf, branchOf, isLoad, isStore, takenOf, effectOf, executeOf, planOf}
-use Rattle.transfers.specs.Transfer.{callWay, jumpCheck, gateCountOf}
+use Rattle.transfers.specs.Transfer.{callWay, jumpCheck}
 use Rattle.arguments.specs.ArgumentList.{listWord, listPointer, sourceOf, capabilityOf, argumentOf, argumentsFrom, frameAfter, frameOf}
 use Rattle.executions.proofs.Fails.{Fails, judged-if, fails-require, fails-if, fails-accept, fails-bind, fails-past}
 use Rattle.executions.proofs.CheckNumbers.{static-judged, match-fails, pointer-fails, instruction-fails, mode-fails, moved-fails}
@@ -63,7 +63,7 @@ module _ (read : Reader) (reads : (p : Pointer) → Fails (read p)) where
     unfolding callWay
     call-way-fails p =
         way-fails (not (p .tag)) (exists lengths (p .segment) (p .word)) (has (rightsOf rights (r .domain) (p .segment)) flag.Execute) (has (rightsOf rights (r .domain) (p .segment)) flag.Gate)
-        (ltb (p .word) (gateCountOf gates (p .segment))) (ltb depth 8)
+        (ltb (p .word) (ofSegment gates (p .segment))) (ltb depth 8)
 
     call-fails : (p : Pointer) → Fails (callOf lengths gates rights stacks depth r pointers p)
     unfolding callOf

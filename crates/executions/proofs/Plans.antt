@@ -22,10 +22,11 @@ use Rattle.memory.specs.Reader.{Reader}
 use Rattle.addressing.specs.Effective.{effectiveOf}
 use Rattle.instructions.specs.Plan.{Plan, halt, move, store, enter, leave}
 use Rattle.instructions.specs.Instruction.{jumpOf, callOf, returnOf, loadOf, branchOf, isLoad, isStore, takenOf, effectOf, executeOf, planOf}
-use Rattle.transfers.specs.Transfer.{callWay, jumpCheck, gateCountOf}
+use Rattle.transfers.specs.Transfer.{callWay, jumpCheck}
 use Rattle.pointer_registers.specs.Stack.{withBase, stackOf}
 use Rattle.executions.proofs.Says.{Says, says-bind, says-then, says-if, says-accept}
 use Rattle.executions.proofs.Pointers.{BaseLt, base-lt, effective-sound}
+use Rattle.state.specs.Record.{ofSegment}
 
 -- a segment, a word and pointers to go on with
 pub record Placed (s w : ℕ) (ps : List Pointer) : Type 0 where
@@ -74,7 +75,7 @@ call-way : (lengths gates rights : List ℕ) (d depth : ℕ) (p : Pointer) → S
 unfolding callWay
 call-way lengths gates rights d depth p =
     way (not (p .tag)) (exists lengths (p .segment) (p .word)) (has (rightsOf rights d (p .segment)) flag.Execute) (has (rightsOf rights d (p .segment)) flag.Gate)
-    (ltb (p .word) (gateCountOf gates (p .segment))) (ltb depth 8)
+    (ltb (p .word) (ofSegment gates (p .segment))) (ltb depth 8)
 
 module _ (lengths gates rights stacks : List ℕ) (depth : ℕ) (r : Registers) (pointers : List Pointer) where
   abbrev pub PlanSound : Plan → Type 0

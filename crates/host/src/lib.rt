@@ -1,4 +1,4 @@
-// A library in C's calling convention that answers single references, reads and writes images and runs machines, for comparison with other implementations.
+// Calls of a host, in C's calling convention, on a machine that it keeps as bytes: checks of references, images, runs.
 pub mod read_image;
 pub mod run_machine;
 pub mod write_image;

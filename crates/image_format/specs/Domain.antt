@@ -1,7 +1,7 @@
 -- Kind 3, one per domain: stack segment, then a rights byte (0-15) per segment.
 use Prim.Native.Nat.{ℕ, zero, suc, _+_}
 use mathlib.Core.Bool.{Bool, true, _&&_}
-use mathlib.Core.List.{List, [], _∷_}
+use mathlib.Core.List.{List, [], _∷_, map}
 use lib.Dec.{leb, ltb}
 use lib.ListN.{getD, drop}
 use Rattle.words.specs.Answer.{Answer, ok, _>>=_, _>>_, require}
@@ -48,3 +48,7 @@ domainBytes d = chunkBytes 3 (d .stack ∷ d .rights)
 -- the bytes of domains, one after the other
 abbrev pub domainsBytes : List Domain → List ℕ
 domainsBytes = joined domainBytes
+
+-- the stack segments of domains, in order
+abbrev pub stacksOf : List Domain → List ℕ
+stacksOf = map (λ d. d .stack)

@@ -1,6 +1,6 @@
 -- Images: kind 1, kind 2 for each segment, kind 3 for each domain, kind 4, and nothing after it.
 use Prim.Native.Nat.{ℕ, zero, suc, _+_, _-_, _*_}
-use mathlib.Core.List.{List, [], _∷_, _++_, map}
+use mathlib.Core.List.{List, [], _∷_, _++_}
 use lib.Dec.{eqb}
 use lib.ListN.{length, getD, take, drop, replicate}
 use Rattle.words.specs.Answer.{Answer, ok, _>>=_, _>>_, require}
@@ -11,8 +11,8 @@ use Rattle.words.specs.Numbers.{bytesLeft}
 use Rattle.image_format.specs.Bytes.{joined}
 use Rattle.image_format.specs.Chunk.{chunkOf, chunkBytes, exactly}
 use Rattle.image_format.specs.Head.{headOf, headBytes}
-use Rattle.image_format.specs.Segment.{Segment, segmentsOf, segmentsBytes}
-use Rattle.image_format.specs.Domain.{Domain, domainsOf, domainsBytes}
+use Rattle.image_format.specs.Segment.{Segment, segmentsOf, segmentsBytes, lengthsOf, gatesOf, gatedomainsOf}
+use Rattle.image_format.specs.Domain.{Domain, domainsOf, domainsBytes, stacksOf}
 
 -- what an image holds
 pub record Image : Type 0 where
@@ -51,11 +51,11 @@ allRows = joined (λ d. padded 16 (d .rights))
 unfoldable pub layoutOf : Image → Layout
 layoutOf i =
     record {
-      lengths = padded 16 (map (λ s. length (s .words)) (i .segments));
-      gates = padded 16 (map (λ s. s .gates) (i .segments));
+      lengths = padded 16 (lengthsOf (i .segments));
+      gates = padded 16 (gatesOf (i .segments));
       start = i .start;
-      gatedomains = padded 16 (map (λ s. s .domain) (i .segments));
-      stacks = padded 8 (map (λ d. d .stack) (i .domains));
+      gatedomains = padded 16 (gatedomainsOf (i .segments));
+      stacks = padded 8 (stacksOf (i .domains));
       rights = padded 128 (allRows (i .domains));
       segments = length (i .segments);
       domains = length (i .domains);

@@ -1,6 +1,6 @@
 -- Kind 2, one per segment: gate count (2 bytes), gate domain, 0, then its words.
 use Prim.Native.Nat.{ℕ, zero, suc, _-_, _/_, _%_}
-use mathlib.Core.List.{List, [], _∷_, _++_}
+use mathlib.Core.List.{List, [], _∷_, _++_, map}
 use lib.Dec.{eqb, leb, ltb}
 use lib.ListN.{length, getD, drop}
 use Rattle.words.specs.Answer.{Answer, ok, _>>=_, _>>_, require}
@@ -65,3 +65,13 @@ segmentsBytes = joined segmentBytes
 -- the words of all segments, one after the other
 abbrev pub allWords : List Segment → List ℕ
 allWords = joined (λ s. s .words)
+
+-- the lengths, gate counts and gate domains of segments, in order
+abbrev pub lengthsOf : List Segment → List ℕ
+lengthsOf = map (λ s. length (s .words))
+
+abbrev pub gatesOf : List Segment → List ℕ
+gatesOf = map (λ s. s .gates)
+
+abbrev pub gatedomainsOf : List Segment → List ℕ
+gatedomainsOf = map (λ s. s .domain)

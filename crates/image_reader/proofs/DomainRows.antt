@@ -8,14 +8,14 @@ use lib.Seq.{paste, take-at, drop-append-add, length-take-le}
 use Rattle.words.specs.Answer.{refuse, ok}
 use Rattle.image_format.specs.Bytes.{joined}
 use Rattle.image_format.specs.Chunk.{Read, chunkOf, exactly}
-use Rattle.image_format.specs.Domain.{Domain, domainRead, domainOf, domainsOf}
+use Rattle.image_format.specs.Domain.{Domain, domainRead, domainOf, domainsOf, stacksOf}
 use Rattle.image_format.specs.Image.{padded, allRows}
 use Rattle.image_format.proofs.Answers.{bound}
 use Rattle.image_format.proofs.Chunks.{exact-room}
 use Rattle.image_format.proofs.Joined.{joined-snoc}
 use Rattle.image_format.proofs.Padded.{padded-set, padded-length, map-snoc}
 use Rattle.image_reader.proofs.Runs.{more, one, more-none, more-one, more-done}
-use Rattle.image_reader.specs.Private.{stacksOf, domainRows}
+use Rattle.image_reader.specs.Private.{domainRows}
 
 pub domain-room : (segments : ℕ) (bytes : List ℕ) {d : Read Domain} → domainOf segments bytes ≡ ok d → 4 + (1 + segments) ≤ length bytes
 unfolding domainOf

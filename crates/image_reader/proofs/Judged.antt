@@ -7,13 +7,13 @@ use Rattle.words.specs.Answer.{Answer, refuse, ok, _>>=_, _>>_}
 use Rattle.state.specs.declared.record.Layout.{Layout}
 use Rattle.image_format.specs.Chunk.{Read}
 use Rattle.image_format.specs.Head.{headOf}
-use Rattle.image_format.specs.Segment.{Segment, segmentsOf}
-use Rattle.image_format.specs.Domain.{Domain, domainsOf}
+use Rattle.image_format.specs.Segment.{Segment, segmentsOf, lengthsOf, gatesOf, gatedomainsOf}
+use Rattle.image_format.specs.Domain.{Domain, domainsOf, stacksOf}
 use Rattle.image_format.specs.Image.{Image, endOf, imageOf, layoutOf, padded, allRows}
 use Rattle.image_reader.specs.Reader.{mapped}
 use Rattle.image_format.specs.declared.Head.{Head}
 use Rattle.image_format.proofs.Images.{segments-count, domains-count}
-use Rattle.image_reader.specs.Private.{lengthsOf, gatesOf, gatedomainsOf, stacksOf, segmentRows, domainRows, rowsLayout, afterSegments}
+use Rattle.image_reader.specs.Private.{segmentRows, domainRows, rowsLayout, afterSegments}
 
 module _ (h : Head) where
   ends : (a : Answer (Unit {0})) (i : Image) (l : Layout) → layoutOf i ≡ l → mapped layoutOf (a >> ok i) ≡ (a >> ok l)

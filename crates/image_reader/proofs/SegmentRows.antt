@@ -7,14 +7,14 @@ use lib.ListN.{length, drop, set, length-append, length-map}
 use Rattle.words.specs.Answer.{refuse, ok}
 use Rattle.image_format.specs.Bytes.{wordsOf}
 use Rattle.image_format.specs.Chunk.{Read}
-use Rattle.image_format.specs.Segment.{Segment, segmentOf, segmentsOf}
+use Rattle.image_format.specs.Segment.{Segment, segmentOf, segmentsOf, lengthsOf, gatesOf, gatedomainsOf}
 use Rattle.image_format.specs.Image.{padded}
 use Rattle.image_reader.specs.declared.segment.SegmentRow.{SegmentRow}
 use Rattle.image_format.proofs.Parts.{words-length}
 use Rattle.image_format.proofs.Padded.{padded-set, map-snoc}
 use Rattle.image_reader.proofs.Runs.{more, one, more-none, more-one, more-done}
 use Rattle.image_format.proofs.Segments.{segment-facts, segment-count}
-use Rattle.image_reader.specs.Private.{lengthsOf, gatesOf, gatedomainsOf, segmentRows}
+use Rattle.image_reader.specs.Private.{segmentRows}
 
 -- a row of the code, as it is read
 abbrev pub rowRead : List ℕ → ℕ → SegmentRow → Read Segment

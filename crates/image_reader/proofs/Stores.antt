@@ -9,7 +9,7 @@ use Rattle.words.specs.Answer.{Answer, refuse, ok}
 use Rattle.state.specs.declared.record.Layout.{Layout}
 use Rattle.image_format.specs.Bytes.{pairOf, wordsOf, joined}
 use Rattle.image_format.specs.Chunk.{Read}
-use Rattle.image_format.specs.Segment.{Segment, wordCount, segmentsOf, allWords}
+use Rattle.image_format.specs.Segment.{Segment, wordCount, segmentsOf, allWords, lengthsOf}
 use Rattle.image_format.specs.Image.{Image, imageOf, layoutOf, padded}
 use Rattle.image_reader.specs.Reader.{mapped, memoryAfter}
 use Rattle.image_format.proofs.Answers.{no-value, the-value}
@@ -18,7 +18,6 @@ use Rattle.image_format.proofs.Parts.{words-length}
 use Rattle.image_format.proofs.Bodies.{words-is}
 use Rattle.image_format.proofs.Segments.{SegmentPassed, segment-facts, segment-count}
 use Rattle.image_format.proofs.Images.{image-facts, head-facts, Segmented, segments-facts, segments-end, segments-count}
-use Rattle.image_reader.specs.Private.{lengthsOf}
 
 pub record Mapped {A B : Type 0} (f : A → B) (a : Answer A) (y : B) : Type 0 where
   pub value : A

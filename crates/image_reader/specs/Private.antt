@@ -1,13 +1,13 @@
 -- Definitions that only contracts of private functions cite.
 use Prim.Native.Nat.{ℕ, _+_}
-use mathlib.Core.List.{List, map}
+use mathlib.Core.List.{List}
 use lib.ListN.{take, drop, length}
 use Rattle.words.specs.Answer.{Answer, refuse, ok, _>>=_, _>>_}
 use Rattle.image_format.specs.declared.Head.{Head}
 use Rattle.image_format.specs.Bytes.{wordsOf}
 use Rattle.image_format.specs.Chunk.{Read, chunkAt}
-use Rattle.image_format.specs.Segment.{Segment}
-use Rattle.image_format.specs.Domain.{Domain, domainsOf}
+use Rattle.image_format.specs.Segment.{Segment, lengthsOf, gatesOf, gatedomainsOf}
+use Rattle.image_format.specs.Domain.{Domain, domainsOf, stacksOf}
 use Rattle.image_reader.specs.declared.chunk.HeaderAnswer.{HeaderAnswer}
 use Rattle.image_reader.specs.declared.chunk.Verdict.{Verdict}
 use Rattle.image_reader.specs.declared.head.HeadAnswer.{HeadAnswer}
@@ -76,19 +76,6 @@ pub record DomainRows : Type 0 where
   pub stacks : List ℕ
   pub rights : List ℕ
   pub rest : List ℕ
-
--- the numbers of the segments and of the domains, in order
-abbrev pub lengthsOf : List Segment → List ℕ
-lengthsOf = map (λ s. length (s .words))
-
-abbrev pub gatesOf : List Segment → List ℕ
-gatesOf = map (λ s. s .gates)
-
-abbrev pub gatedomainsOf : List Segment → List ℕ
-gatedomainsOf = map (λ s. s .domain)
-
-abbrev pub stacksOf : List Domain → List ℕ
-stacksOf = map (λ d. d .stack)
 
 -- the rows of the segments that were read
 unfoldable pub segmentRows : Answer (Read (List Segment)) → Answer SegmentRows

@@ -1,4 +1,4 @@
-// The calls on a machine whose record is lent. Any record and any memory may be lent.
+// The calls on a machine whose record lies behind a reference. Any record and any memory may be lent.
 ghost use mathlib.Core.Path.{_≡_};
 ghost use Rattle.processor.specs.Calls.{stepCall, runCall, stretchCall};
 ghost use Rattle.in_place.specs.InPlace.{stepInPlace, ranInPlace};

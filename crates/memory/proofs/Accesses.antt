@@ -15,9 +15,9 @@ use Rattle.references.specs.Static.{exists, staticOf}
 use Rattle.references.specs.Reference.{locateOf, referenceOf, verdictOf}
 use Rattle.memory.specs.Reader.{fetchOf}
 use Rattle.memory.proofs.Answers.{refused-number, accepted-number}
-use Rattle.memory.specs.Private.{lengthOf}
+use Rattle.state.specs.Record.{ofSegment}
 
-absent : (lengths : List ℕ) (s w : ℕ) → lengthOf lengths s ≤ w → exists lengths s w ≡ false
+absent : (lengths : List ℕ) (s w : ℕ) → ofSegment lengths s ≤ w → exists lengths s w ≡ false
 unfolding exists
 absent lengths s w h = by (ltb s 16) h
   where
@@ -25,7 +25,7 @@ absent lengths s w h = by (ltb s 16) h
     by true h = le-ltb w (getD lengths s 0) h
     by false h = refl
 
-pub fetch-absent : (lengths rights bases words : List ℕ) (d s w : ℕ) → lengthOf lengths s ≤ w → fetchOf lengths rights bases words d s w ≡ refuse 21
+pub fetch-absent : (lengths rights bases words : List ℕ) (d s w : ℕ) → ofSegment lengths s ≤ w → fetchOf lengths rights bases words d s w ≡ refuse 21
 unfolding fetchOf locateOf staticOf
 fetch-absent lengths rights bases words d s w h = rw (absent lengths s w h)
 

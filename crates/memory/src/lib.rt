@@ -5,7 +5,7 @@ ghost use lib.ListN.{getD, set};
 ghost use Rattle.references.specs.Reference.{verdictOf};
 ghost use Rattle.references.specs.declared.flag.Access.the-variants as access;
 ghost use Rattle.memory.specs.Reader.{readOf, fetchOf, writtenOf, wordAnswer};
-ghost use Rattle.memory.specs.Private.{lengthOf};
+ghost use Rattle.state.specs.Record.{ofSegment};
 use references::flag::Access;
 use references::flag::Flag;
 use references::reference::IndexAnswer;
@@ -97,7 +97,7 @@ pub fn write<'a>(
 
 // The length of a segment; 0 past the sixteenth.
 fn length_of(lengths: &[u16; 16], segment: u8) -> u16
-    ensures { λ r. ⌜ r ≡ lengthOf (now (lengths .entry)) segment ⌝ }
+    ensures { λ r. ⌜ r ≡ ofSegment (now (lengths .entry)) segment ⌝ }
 {
     if 16 <= segment {
         return 0;

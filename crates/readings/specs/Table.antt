@@ -1,4 +1,4 @@
--- The starred readings: a question and its answer a row.
+-- The readings that the paper marks to be proved: a question and its answer a row.
 use Prim.Native.Nat.{ℕ}
 use mathlib.Core.Bool.{true}
 use mathlib.Core.List.{List, [], _∷_, _++_}

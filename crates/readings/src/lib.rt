@@ -1,1 +1,1 @@
-// The starred readings, one table and one proof: specs/Table.antt and proofs/Hold.antt. There is no code here.
+// The readings that the paper marks to be proved: one table, specs/Table.antt, and one proof, proofs/Hold.antt. There is no code here.

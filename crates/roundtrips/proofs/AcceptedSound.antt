@@ -17,13 +17,12 @@ use Rattle.layout_soundness.proofs.Tests.{join, inside, both, either-part}
 use Rattle.layout_soundness.proofs.All.{all}
 use Rattle.soundness.proofs.FreshSound.{fresh-sound}
 use Rattle.image_format.specs.Bytes.{joined}
-use Rattle.image_format.specs.Segment.{Segment, allWords}
-use Rattle.image_format.specs.Domain.{Domain, allRights}
+use Rattle.image_format.specs.Segment.{Segment, allWords, lengthsOf, gatesOf, gatedomainsOf}
+use Rattle.image_format.specs.Domain.{Domain, allRights, stacksOf}
 use Rattle.image_format.specs.Image.{Image, imageOf, layoutOf, padded, allRows}
 use Rattle.image_format.proofs.Padded.{padded-length}
 use Rattle.roundtrips.proofs.Good.{All, all-at, Good, GoodSegment, GoodDomain}
 use Rattle.roundtrips.proofs.Accepted.{accepted}
-use Rattle.image_reader.specs.Private.{lengthsOf, gatesOf, gatedomainsOf, stacksOf}
 
 abbrev pub noSegment : Segment
 noSegment = record { gates = 0; domain = 0; words = [] }

@@ -9,14 +9,13 @@ use lib.Seq.{ext-getD, split-at, take-suc, take-at, drop-at, length-take-le}
 use Rattle.state.specs.Bases.{baseOf}
 use Rattle.state.proofs.Sums.{base-next, base-zero}
 use Rattle.image_format.specs.Bytes.{joined}
-use Rattle.image_format.specs.Segment.{Segment, allWords}
-use Rattle.image_format.specs.Domain.{Domain}
+use Rattle.image_format.specs.Segment.{Segment, allWords, lengthsOf, gatesOf, gatedomainsOf}
+use Rattle.image_format.specs.Domain.{Domain, stacksOf}
 use Rattle.image_format.specs.Image.{Image, layoutOf, padded, allRows, rowsFrom, segmentAt, domainAt, imageFrom}
 use Rattle.image_format.proofs.Joined.{joined-append, joined-snoc, rows-length}
 use Rattle.roundtrips.proofs.Good.{All, all-at, Good, GoodDomain}
 use Rattle.roundtrips.proofs.AcceptedSound.{noSegment, noDomain, map-at, rows-size}
 use Rattle.roundtrips.proofs.LayoutBack.{rows-at}
-use Rattle.image_reader.specs.Private.{lengthsOf, gatesOf, gatedomainsOf, stacksOf}
 
 all-take : {A : Type 0} (P : A → Type 0) (n : ℕ) (xs : List A) → All P xs → All P (take n xs)
 all-take P zero xs a = tt

@@ -152,7 +152,7 @@ module _ (stretch : Bool) (limit k n : ℕ) (count : limit - (n + 1) ≡ k) (m :
   abbrev wordsAt : List ℕ
   wordsAt = cycleWords (m .layout .lengths) (m .layout .gates) (m .layout .rights) (m .layout .stacks) bases words depth frame (m .registers) (m .pointers)
 
-  -- a run of at least one instruction, as its turn tells
+  -- a run of at least one instruction, as its cycle tells
   pub run-cycled : inUse (m .depth) ≡ m .depth → runFrom stretch (suc k) n m words ≡ cycled wordsAt cycleAt
   unfolding runFrom execute decide fetch readWord cycleOf cycleWords
   run-cycled u = by-plan u (planOf (m .layout .lengths) (m .layout .gates) (m .layout .rights) (m .layout .stacks) (m .depth) (m .registers) (m .pointers) (fetch m words) (readWord m words)) ∙ rw u refl

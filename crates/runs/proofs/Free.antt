@@ -20,9 +20,10 @@ use Rattle.memory.specs.Reader.{Reader, readOf, fetchOf}
 use Rattle.addressing.specs.Effective.{effectiveOf}
 use Rattle.instructions.specs.Plan.{Plan, halt, move, store, enter, leave}
 use Rattle.instructions.specs.Instruction.{jumpOf, callOf, returnOf, loadOf, branchOf, isLoad, isStore, takenOf, effectOf, executeOf, planOf}
-use Rattle.transfers.specs.Transfer.{callWay, jumpCheck, gateCountOf}
+use Rattle.transfers.specs.Transfer.{callWay, jumpCheck}
 use Rattle.pointer_registers.specs.Stack.{withBase, stackOf}
 use Rattle.instructions.specs.Cycle.{Progress, ended, moved, entering, leaving, settled, cycleOf, planned}
+use Rattle.state.specs.Record.{ofSegment}
 
 module _ (depth : ℕ) where
   -- entering needs a frame free
@@ -64,7 +65,7 @@ module _ (depth : ℕ) where
     call-free : (p : Pointer) → Free (callOf lengths gates rights stacks depth r pointers p)
     unfolding callOf callWay
     call-free p =
-        way-free (not (p .tag)) (exists lengths (p .segment) (p .word)) (has (rightsOf rights (r .domain) (p .segment)) flag.Execute) (has (rightsOf rights (r .domain) (p .segment)) flag.Gate) (ltb (p .word) (gateCountOf gates (p .segment))) (ltb depth 8)
+        way-free (not (p .tag)) (exists lengths (p .segment) (p .word)) (has (rightsOf rights (r .domain) (p .segment)) flag.Execute) (has (rightsOf rights (r .domain) (p .segment)) flag.Gate) (ltb (p .word) (ofSegment gates (p .segment))) (ltb depth 8)
         (ok (move (r .a) (p .segment) (p .word) (withBase pointers (stackOf stacks (r .domain))))) tt (ltb-true depth 8) p
 
     load-free : (opcode : ℕ) (p : Pointer) → Free (loadOf lengths gates rights stacks depth r pointers read opcode p)

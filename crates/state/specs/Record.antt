@@ -2,7 +2,7 @@
 use Prim.Native.Nat.{ℕ, _-_}
 use mathlib.Core.Bool.{false}
 use mathlib.Core.List.{List, []}
-use lib.Dec.{leb}
+use lib.Dec.{leb, ltb}
 use lib.ListN.{getD, replicate}
 use Rattle.words.specs.Answer.{if_then_else_}
 use Rattle.words.specs.declared.pointer.Pointer.{Pointer}
@@ -18,6 +18,10 @@ noCapability = record { word = 0; length = 0; segment = 0; source = 0; read = fa
 
 abbrev pub noFrame : Frame
 noFrame = record { capabilities = []; s = noPointer; back = noPointer; count = 0; domain = 0 }
+
+-- the number that an array of sixteen has for a segment: its length, gate count or gate domain; 0 past the rows
+abbrev pub ofSegment : List ℕ → ℕ → ℕ
+ofSegment rows segment = if ltb segment 16 then getD rows segment 0 else 0
 
 -- a frame that is not in use: nine empty rows
 abbrev pub freeFrame : Frame

@@ -11,7 +11,8 @@ use Rattle.words.specs.declared.pointer.Pointer.{Pointer}
 use Rattle.references.specs.declared.flag.Flag.the-variants as flag
 use Rattle.references.specs.Flag.{has}
 use Rattle.references.specs.Static.{exists, rightsOf, staticOf}
-use Rattle.transfers.specs.Transfer.{callWay, gateCountOf}
+use Rattle.transfers.specs.Transfer.{callWay}
+use Rattle.state.specs.Record.{ofSegment}
 
 -- a static check's number, by whether the word exists and the flag is there
 abbrev number : Bool → Bool → ℕ
@@ -60,7 +61,7 @@ module _ (lengths gates rights : List ℕ) (domain depth : ℕ) (p : Pointer) wh
   g = has (rightsOf rights domain (p .segment)) flag.Gate
 
   abbrev w : Bool
-  w = ltb (p .word) (gateCountOf gates (p .segment))
+  w = ltb (p .word) (ofSegment gates (p .segment))
 
   abbrev d : Bool
   d = ltb depth 8
@@ -83,6 +84,6 @@ module _ (lengths gates rights : List ℕ) (domain depth : ℕ) (p : Pointer) wh
       unfolding callWay staticOf
       way-barred m = rw t (barred x e g w d e₀ e₁ m)
 
-      pub way-gate : G ≡ 0 → callWay lengths gates rights domain depth p ≡ (require (ltb (p .word) (gateCountOf gates (p .segment))) 29 >> require (ltb depth 8) 31 >> ok false)
+      pub way-gate : G ≡ 0 → callWay lengths gates rights domain depth p ≡ (require (ltb (p .word) (ofSegment gates (p .segment))) 29 >> require (ltb depth 8) 31 >> ok false)
       unfolding callWay staticOf
       way-gate m = rw t (open-gate x e g w d e₀ e₁ m)

@@ -3,7 +3,6 @@ use Prim.Native.Nat.{ℕ}
 use mathlib.Core.Bool.{Bool, true, false, not}
 use mathlib.Core.List.{List}
 use lib.Dec.{ltb}
-use lib.ListN.{getD}
 use Rattle.words.specs.Answer.{Answer, refuse, ok, _>>_, require, if_then_else_}
 use Rattle.words.specs.Numbers.{noWord, flagMissing, taggedTransfer, notGate, noFreeFrame}
 use Rattle.words.specs.declared.pointer.Pointer.{Pointer}
@@ -12,13 +11,7 @@ use Rattle.references.specs.Flag.{has}
 use Rattle.references.specs.Static.{exists, rightsOf, staticOf}
 use Rattle.transfers.specs.declared.CallAnswer.{CallAnswer}
 use Rattle.transfers.specs.declared.CallAnswer.the-variants as way
-
--- the gate count and the gate domain of a segment; nothing past the rows
-abbrev pub gateCountOf : List ℕ → ℕ → ℕ
-gateCountOf gates segment = if ltb segment 16 then getD gates segment 0 else 0
-
-abbrev pub gateDomainOf : List ℕ → ℕ → ℕ
-gateDomainOf gatedomains segment = if ltb segment 16 then getD gatedomains segment 0 else 0
+use Rattle.state.specs.Record.{ofSegment}
 
 -- a jump's checks, an untagged pointer, then static E: 0, or the number of the fault
 unfoldable pub jumpCheck : List ℕ → List ℕ → ℕ → Pointer → ℕ
@@ -32,7 +25,7 @@ callWay lengths gates rights domain depth p =
     (if has (rightsOf rights domain (p .segment)) flag.Execute then ok true
     else (
     require (has (rightsOf rights domain (p .segment)) flag.Gate) flagMissing >>
-    require (ltb (p .word) (gateCountOf gates (p .segment))) notGate >>
+    require (ltb (p .word) (ofSegment gates (p .segment))) notGate >>
     require (ltb depth 8) noFreeFrame >>
     ok false))
 

@@ -1,6 +1,7 @@
 // The checks of JUMP, and of CALL up to the argument list.
 ghost use mathlib.Core.Path.{_≡_};
-ghost use Rattle.transfers.specs.Transfer.{jumpCheck, callWay, callAnswer, gateCountOf};
+ghost use Rattle.transfers.specs.Transfer.{jumpCheck, callWay, callAnswer};
+ghost use Rattle.state.specs.Record.{ofSegment};
 use references::flag::Flag;
 use references::statics::static_check;
 use words::pointer::Pointer;
@@ -24,7 +25,7 @@ pub fn jump_check<'a>(lengths: &'a [u16; 16], rights: &'a [u8; 128], domain: u8,
 
 // The gate count of a segment; none past the sixteenth.
 fn gate_count_of(gates: &[u16; 16], segment: u8) -> u16
-    ensures { λ r. ⌜ r ≡ gateCountOf (now (gates .entry)) segment ⌝ }
+    ensures { λ r. ⌜ r ≡ ofSegment (now (gates .entry)) segment ⌝ }
 {
     if 16 <= segment {
         return 0;

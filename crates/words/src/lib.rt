@@ -1,4 +1,4 @@
-// Words taken apart: pointer words, instruction words, mode words, offsets, and the arithmetic of A.
+// Pointer words, instruction words, mode words, offsets, and the arithmetic of A.
 pub mod arithmetic;
 mod bits;
 pub mod instruction;

@@ -5,11 +5,12 @@ use mathlib.Core.Path.{_≡_, sym, _∙_}
 use mathlib.Core.Bool.{Bool, false}
 use borrow.Author.Tests.{lt-ltb, le-ltb}
 use Rattle.words.specs.Answer.{Answer, ok, _>>_, require}
-use Rattle.transfers.specs.Transfer.{callWay, gateCountOf}
+use Rattle.transfers.specs.Transfer.{callWay}
 use Rattle.transfers.proofs.Transfers.{way-tagged, way-inside, way-absent, way-barred, way-gate}
 use lib.Dec.{ltb}
 use Rattle.transfers.proofs.call_way.Statement.{statement}
 use Rattle.transfers.proofs.call_way.Tie as tie
+use Rattle.state.specs.Record.{ofSegment}
 
 returns : tie.Need-returns
 returns c = let a = c .before .args in sym (way-tagged (a .lengths .now) (a .gates .now) (a .rights .now) (a .domain) (a .depth) (a .p) (c .if1 .taken))
@@ -36,7 +37,7 @@ returns-4 c =
 
 -- with G the rest of the way is the gate and the free frame
 gated : (c : tie.Else4) → let a = c .before .before .before .before .before .before .args in
-    callWay (a .lengths .now) (a .gates .now) (a .rights .now) (a .domain) (a .depth) (a .p) ≡ (require (ltb (a .p .word) (gateCountOf (a .gates .now) (a .p .segment))) 29 >> require (ltb (a .depth) 8) 31 >> ok false)
+    callWay (a .lengths .now) (a .gates .now) (a .rights .now) (a .domain) (a .depth) (a .p) ≡ (require (ltb (a .p .word) (ofSegment (a .gates .now) (a .p .segment))) 29 >> require (ltb (a .depth) 8) 31 >> ok false)
 gated c =
     let g = c .before in
     let e = g .before in
