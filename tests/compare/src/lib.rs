@@ -2,6 +2,7 @@
 
 mod answers;
 mod checks;
+mod cpu_time;
 pub mod images;
 pub mod isolation;
 #[cfg_attr(library_missing, path = "library_missing.rs")]
@@ -11,6 +12,7 @@ pub mod runs;
 
 pub use answers::{Answers, Kind};
 pub use checks::compare_checks;
+pub use cpu_time::cpu_time;
 pub use references::{Reference, REFUSED};
 
 use std::fmt::Write;

@@ -65,11 +65,20 @@ pub fn read_image(image: &[u8], machine: &mut Machine, memory: &mut [u32]) -> Re
     require(chunks.rest.is_empty(), Refusal::BytesAfterEnd)?;
     fresh.restart();
     *machine = fresh;
-    let words = bodies.iter().flat_map(|body| body.chunks_exact(4));
-    for (word, bytes) in memory.iter_mut().zip(words) {
-        *word = little_endian(bytes);
-    }
+    store_words(&bodies, memory);
     Ok(())
+}
+
+/// Stores the words of the segments, one segment after the other.
+fn store_words(bodies: &[&[u8]], memory: &mut [u32]) {
+    let mut rest = memory;
+    for body in bodies {
+        let (words, after) = rest.split_at_mut(body.len() / 4);
+        rest = after;
+        for (word, bytes) in words.iter_mut().zip(body.chunks_exact(4)) {
+            *word = little_endian(bytes);
+        }
+    }
 }
 
 /// Four bytes as a word.

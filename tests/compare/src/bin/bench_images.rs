@@ -1,16 +1,15 @@
 //! `bench_images`: reads and writes the longest image with the proved library
-//! and with the reference, in turns, and prints the best time of each.
+//! and with the reference, in turns, and prints the best CPU time of each.
 //!
 //! Both take the record as bytes and give it back as bytes. A call that is
 //! refused at once does that alone, so the difference is the reader or writer
 //! by itself. No buffer is cleared between calls.
 
 use compare::images::samples;
-use compare::library;
+use compare::{cpu_time, library};
 use reference::{machine_from_bytes, read_image, record_bytes, write_image};
 use reference::{Machine, Refusal, LONGEST_IMAGE, MEMORY_WORDS};
 use std::hint::black_box;
-use std::time::Instant;
 
 /// Rounds, of which the best counts.
 const ROUNDS: usize = 300;
@@ -108,13 +107,13 @@ const WORK: [Work; 4] = [
     },
 ];
 
-/// Microseconds for each call of a round.
+/// Microseconds of CPU time for each call of a round.
 fn time(call: fn(&mut Buffers), buffers: &mut Buffers) -> f64 {
-    let begun = Instant::now();
+    let begun = cpu_time();
     for _ in 0..CALLS {
         call(black_box(buffers));
     }
-    begun.elapsed().as_secs_f64() * 1e6 / f64::from(CALLS)
+    (cpu_time() - begun).as_secs_f64() * 1e6 / f64::from(CALLS)
 }
 
 fn row(name: &str, [library, reference]: [f64; 2]) {
@@ -142,7 +141,7 @@ fn main() {
     }
     let [read, refused_read, write, refused_write] = best;
     let less = |[a, b]: [f64; 2], [c, d]: [f64; 2]| [a - c, b - d];
-    println!("µs per image              library  reference  library's speed");
+    println!("µs of CPU time per image  library  reference  library's speed");
     row("read", read);
     row("  refused at once", refused_read);
     row("  the reader alone", less(read, refused_read));

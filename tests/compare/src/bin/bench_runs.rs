@@ -1,5 +1,5 @@
 //! `bench_runs`: runs two loops with the proved library and with the
-//! reference, in turns, and prints the best time of each.
+//! reference, in turns, and prints the best CPU time of each.
 //!
 //! One loop has twelve plain instructions, among them a reference through the
 //! sixth capability of the live frame; the other has eight, among them a call
@@ -7,10 +7,10 @@
 //! (plain or calls) asks for one of them.
 
 use assembler::*;
-use compare::library;
+use compare::{cpu_time, library};
 use reference::{machine_from_bytes, read_image, record_bytes, run, Machine, MEMORY_WORDS};
 use std::hint::black_box;
-use std::time::Instant;
+use std::time::Duration;
 
 /// Rounds, of which the best counts.
 const ROUNDS: usize = 9;
@@ -110,7 +110,7 @@ fn fresh(image: &[u8]) -> (Machine, Vec<u32>) {
 fn by_library(image: &[u8]) -> (f64, Vec<u8>, Vec<u32>) {
     let (machine, mut words) = fresh(image);
     let mut record = record_bytes(&machine);
-    let start = Instant::now();
+    let start = cpu_time();
     for _ in 0..CALLS {
         let code = library::run(black_box(&mut record), &mut words, LIMIT, 0);
         assert_eq!(code, 0x200_0000 + u32::from(LIMIT));
@@ -121,7 +121,7 @@ fn by_library(image: &[u8]) -> (f64, Vec<u8>, Vec<u32>) {
 /// The same by the reference.
 fn by_reference(image: &[u8]) -> (f64, Vec<u8>, Vec<u32>) {
     let (mut machine, mut words) = fresh(image);
-    let start = Instant::now();
+    let start = cpu_time();
     for _ in 0..CALLS {
         let answer = run(black_box(&mut machine), &mut words, LIMIT).expect("a sound machine");
         assert_eq!(answer.count, LIMIT);
@@ -129,8 +129,8 @@ fn by_reference(image: &[u8]) -> (f64, Vec<u8>, Vec<u32>) {
     (per_instruction(start), record_bytes(&machine), words)
 }
 
-fn per_instruction(start: Instant) -> f64 {
-    start.elapsed().as_nanos() as f64 / (CALLS as f64 * f64::from(LIMIT))
+fn per_instruction(start: Duration) -> f64 {
+    (cpu_time() - start).as_nanos() as f64 / (CALLS as f64 * f64::from(LIMIT))
 }
 
 fn bench(name: &str, image: &[u8]) {
@@ -153,15 +153,16 @@ fn bench(name: &str, image: &[u8]) {
 
 fn main() {
     assert!(machine_from_bytes(&record_bytes(&Machine::default())).is_some());
+    let only = std::env::args().nth(1);
+    let mut asked = vec![("plain", plain_loop()), ("calls", call_loop())];
+    asked.retain(|(name, _)| only.as_ref().is_none_or(|only| only == name));
+    assert!(!asked.is_empty(), "the loops are plain and calls");
     println!(
-        "ns an instruction, best of {ROUNDS}, {} instructions a round",
+        "ns of CPU time an instruction, best of {ROUNDS}, {} instructions a round",
         CALLS * usize::from(LIMIT)
     );
     println!("       library  reference   ratio");
-    let only = std::env::args().nth(1);
-    for (name, image) in [("plain", plain_loop()), ("calls", call_loop())] {
-        if only.as_ref().is_none_or(|only| only == name) {
-            bench(name, &image);
-        }
+    for (name, image) in asked {
+        bench(name, &image);
     }
 }
