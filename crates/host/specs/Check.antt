@@ -6,7 +6,7 @@ use Rattle.words.specs.Answer.{Answer, refuse, ok, if_then_else_}
 use Rattle.words.specs.declared.pointer.Pointer.{Pointer}
 use Rattle.references.specs.declared.flag.Access.{Access}
 use Rattle.references.specs.declared.flag.Access.the-variants as access
-use Rattle.checks.specs.Judged.{judgedCheck}
+use Rattle.record_checks.specs.Judged.{judgedCheck}
 use Rattle.snapshot_reader.specs.Read.{recordOf}
 
 -- 1 asks to write, another number to read

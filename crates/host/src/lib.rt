@@ -5,7 +5,7 @@ pub mod write_image;
 
 ghost use mathlib.Core.Path.{_≡_};
 ghost use Rattle.host.specs.Check.{accessOf, checkOf};
-use checks::reference::check_reference;
+use record_checks::reference::check_reference;
 use references::flag::Access;
 use references::reference::IndexAnswer;
 use snapshot_reader::record_of;

@@ -24,7 +24,7 @@ use Rattle.capabilities.specs.Search.{coversOf, firstOf}
 use Rattle.references.specs.Live.{liveMatch, liveOf, passedOf}
 use Rattle.references.specs.Reference.{verdictOf, locateOf, referenceOf}
 use Rattle.references.specs.Check.{check}
-use Rattle.checks.specs.Judged.{judgedCheck}
+use Rattle.record_checks.specs.Judged.{judgedCheck}
 use Rattle.memory.specs.Reader.{readOf, fetchOf, readWord, fetch}
 use Rattle.addressing.specs.Effective.{displacedBy, throughOf, effectiveOf}
 use Rattle.transfers.specs.Transfer.{callWay}

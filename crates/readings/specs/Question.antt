@@ -13,7 +13,7 @@ use Rattle.state.specs.declared.record.Machine.{Machine}
 use Rattle.state.specs.Record.{inUse, liveFrame}
 use Rattle.references.specs.declared.flag.Access.the-variants as access
 use Rattle.references.specs.Live.{passedOf}
-use Rattle.checks.specs.Judged.{judgedCheck}
+use Rattle.record_checks.specs.Judged.{judgedCheck}
 use Rattle.runs.specs.Run.{Ran, Ending, halted, spent, crossed, faulted, refused}
 use Rattle.processor.specs.Calls.{runCall}
 use Rattle.readings.specs.Scene.{Scene, machineOf, startOf, sceneMemory}

@@ -3,7 +3,7 @@ use native.Mathlib.Omega.{arith}
 use mathlib.Core.Path.{sym, ap, _∙_}
 use borrow.Author.Needs.{needs}
 use Rattle.references.specs.Reference.{indexAnswer}
-use Rattle.checks.proofs.Judged.{judged-lt}
+use Rattle.record_checks.proofs.Judged.{judged-lt}
 use Rattle.host.specs.Check.{checkOf}
 use Rattle.host.proofs.zenkorv_check.Statement.{statement}
 use Rattle.host.proofs.zenkorv_check.Tie as tie

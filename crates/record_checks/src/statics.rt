@@ -1,7 +1,7 @@
 // The static check of a domain, on a whole record.
 ghost use mathlib.Core.Path.{_≡_};
 ghost use Rattle.references.specs.Reference.{indexAnswer};
-ghost use Rattle.checks.specs.Judged.{judgedStatic};
+ghost use Rattle.record_checks.specs.Judged.{judgedStatic};
 use references::flag::Flag;
 use references::reference::IndexAnswer;
 use references::reference::locate;

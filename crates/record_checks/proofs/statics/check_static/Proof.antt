@@ -1,10 +1,10 @@
--- `checks::statics::check_static` meets its contract.
+-- `record_checks::statics::check_static` meets its contract.
 use borrow.Author.Needs.{needs}
 use Rattle.layout_soundness.proofs.Tests.{answered-true, answered-false}
 use Rattle.references.specs.Check.{staticCheck}
-use Rattle.checks.specs.Judged.{judgedStatic}
-use Rattle.checks.proofs.statics.check_static.Statement.{statement}
-use Rattle.checks.proofs.statics.check_static.Tie as tie
+use Rattle.record_checks.specs.Judged.{judgedStatic}
+use Rattle.record_checks.proofs.statics.check_static.Statement.{statement}
+use Rattle.record_checks.proofs.statics.check_static.Tie as tie
 
 sound-requires : tie.Need-sound-requires
 sound-requires c κs = search needs

@@ -1,7 +1,7 @@
 // The check of a reference by the executing domain, on a whole record.
 ghost use mathlib.Core.Path.{_≡_};
 ghost use Rattle.references.specs.Reference.{indexAnswer};
-ghost use Rattle.checks.specs.Judged.{judgedCheck};
+ghost use Rattle.record_checks.specs.Judged.{judgedCheck};
 use references::flag::Access;
 use references::reference::IndexAnswer;
 use references::reference::reference;

@@ -1,10 +1,10 @@
--- `checks::reference::check_reference` meets its contract.
+-- `record_checks::reference::check_reference` meets its contract.
 use borrow.Author.Needs.{needs}
 use Rattle.layout_soundness.proofs.Tests.{answered-true, answered-false}
 use Rattle.references.specs.Check.{check}
-use Rattle.checks.specs.Judged.{judgedCheck}
-use Rattle.checks.proofs.reference.check_reference.Statement.{statement}
-use Rattle.checks.proofs.reference.check_reference.Tie as tie
+use Rattle.record_checks.specs.Judged.{judgedCheck}
+use Rattle.record_checks.proofs.reference.check_reference.Statement.{statement}
+use Rattle.record_checks.proofs.reference.check_reference.Tie as tie
 
 sound-requires : tie.Need-sound-requires
 sound-requires c κs = search needs

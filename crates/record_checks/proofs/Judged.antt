@@ -11,7 +11,7 @@ use Rattle.soundness.proofs.Facts.{sound-facts}
 use Rattle.references.specs.declared.flag.Access.{Access}
 use Rattle.references.specs.Check.{check}
 use Rattle.references.proofs.Places.{check-lt}
-use Rattle.checks.specs.Judged.{judgedCheck}
+use Rattle.record_checks.specs.Judged.{judgedCheck}
 
 -- its index is below 8,192
 pub judged-lt : (m : Machine) (a : Access) (p : Pointer) (i : ℕ) → judgedCheck m a p ≡ ok i → i < 8192
