@@ -7,7 +7,6 @@ use Rattle.words.specs.declared.pointer.Pointer.{Pointer}
 use Rattle.state.specs.declared.record.Frame.{Frame}
 use Rattle.state.specs.declared.record.Registers.{Registers}
 use Rattle.state.specs.Record.{freeFrame, ofSegment}
-use Rattle.references.specs.declared.flag.Flag.the-variants as flag
 use Rattle.references.specs.Reference.{accept}
 use Rattle.pointer_registers.specs.Stack.{withBase, stackOf}
 use Rattle.crossings.specs.declared.crossing.Crossed.{Crossed}

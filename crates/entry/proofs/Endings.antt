@@ -30,7 +30,7 @@ module _ (k n : ℕ) where
   by-answer : (m : Machine) (words : List ℕ) (d : Answer Done) → ((m : Machine) (words : List ℕ) → Listed (runFrom false k (n + 1) m words .ending))
       → Listed (after false (runFrom false k (n + 1)) n m words d .ending)
   by-answer m words (refuse f) h = tt
-  by-answer m words (ok d) h = by-event (d .machine) (d .words) (d .event) (h (d .machine) (d .words))
+  by-answer m words (ok d) h = by-event (d .machine) (d .words) (d .completion) (h (d .machine) (d .words))
 
 run-ends : (k n : ℕ) (m : Machine) (words : List ℕ) → Listed (runFrom false k n m words .ending)
 unfolding runFrom

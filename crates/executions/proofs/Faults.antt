@@ -10,7 +10,7 @@ use Rattle.state.specs.declared.record.Machine.{Machine}
 use Rattle.runs.specs.Step.{Completion, stopped, proceeded, crossing, Done, execute}
 use Rattle.runs.specs.Run.{Ran, ran, Ending, halted, spent, crossed, faulted, refused, after, afterCompletion, runFrom, judged, calledOf}
 use Rattle.processor.specs.Calls.{runOf, stretchOf, runCall, stretchCall, stepped, stepCall}
-use Rattle.executions.specs.Statements.{idle, FaultLeaves, RunFaulted, RefusedLeaves, RefusedStretchLeaves}
+use Rattle.executions.specs.Statements.{idle, FaultLeaves, RunFaulted, RefusedLeaves, RefusedStretchLeaves, RefusedStep, RefusedRun, RefusedStretch}
 
 -- a step whose number is not 0 left record and words, and did not halt
 pub stepped-leaves : (m : Machine) (words : List ℕ) (e : Answer Done) → (stepped m words e .number ≡ 0 → ⊥) → stepped m words e ≡ idle m words (stepped m words e .number)
@@ -21,23 +21,21 @@ pub fault-leaves : FaultLeaves
 unfolding stepCall
 fault-leaves m words h = stepped-leaves m words (if eqb (judged m words) 0 then execute m words else refuse (judged m words)) h
 
-module _ (m : Machine) (words : List ℕ) where
-  -- a refused step, run and stretch
-  pub refused-step : (judged m words ≡ 0 → ⊥) → stepCall m words ≡ idle m words (judged m words)
-  unfolding stepCall
-  refused-step h = simp (ne-eqb _ _ h)
+refused-called : (run : Machine → List ℕ → Ran) (m : Machine) (words : List ℕ) → (judged m words ≡ 0 → ⊥) → calledOf run m words ≡ ran m words 0 (refused (judged m words))
+unfolding calledOf
+refused-called run m words h = simp (ne-eqb _ _ h)
 
-  refused-called : (run : Machine → List ℕ → Ran) → (judged m words ≡ 0 → ⊥) → calledOf run m words ≡ ran m words 0 (refused (judged m words))
-  unfolding calledOf
-  refused-called run h = simp (ne-eqb _ _ h)
+pub refused-step : RefusedStep
+unfolding stepCall
+refused-step m words h = simp (ne-eqb _ _ h)
 
-  pub refused-run : (limit : ℕ) → (judged m words ≡ 0 → ⊥) → runCall limit m words ≡ ran m words 0 (refused (judged m words))
-  unfolding runCall
-  refused-run limit h = refused-called (runOf limit) h
+pub refused-run : RefusedRun
+unfolding runCall
+refused-run m words limit h = refused-called (runOf limit) m words h
 
-  pub refused-stretch : (limit : ℕ) → (judged m words ≡ 0 → ⊥) → stretchCall limit m words ≡ ran m words 0 (refused (judged m words))
-  unfolding stretchCall
-  refused-stretch limit h = refused-called (stretchOf limit) h
+pub refused-stretch : RefusedStretch
+unfolding stretchCall
+refused-stretch m words limit h = refused-called (stretchOf limit) m words h
 
 -- what an ending says of the record and the words that are left: the instruction there gives the fault; no run is refused
 abbrev pub Ends : Ran → Ending → Type 0
@@ -63,7 +61,7 @@ module _ (stretch : Bool) (k n : ℕ) where
   step-ends : (m : Machine) (words : List ℕ) → ((m : Machine) (words : List ℕ) → EndsSo (runFrom stretch k (n + 1) m words))
       → (e : Answer Done) → execute m words ≡ e → EndsSo (after stretch (runFrom stretch k (n + 1)) n m words e)
   step-ends m words h (refuse f) q = q
-  step-ends m words h (ok d) q = event-ends (d .machine) (d .words) (d .event) (h (d .machine) (d .words))
+  step-ends m words h (ok d) q = event-ends (d .machine) (d .words) (d .completion) (h (d .machine) (d .words))
 
 pub run-ends : (stretch : Bool) (k n : ℕ) (m : Machine) (words : List ℕ) → Ends (runFrom stretch k n m words) (runFrom stretch k n m words .ending)
 unfolding runFrom
@@ -76,7 +74,7 @@ run-faulted stretch k n m words f e = rw e at (run-ends stretch k n m words)
 pub run-accepted : (stretch : Bool) (k n : ℕ) (m : Machine) (words : List ℕ) (f : ℕ) → runFrom stretch k n m words .ending ≡ refused f → ⊥
 run-accepted stretch k n m words f e = rw e at (run-ends stretch k n m words)
 
--- a call whose ending is refused left record and words, and counted idle
+-- a call whose ending is refused left record and words, and counted nothing
 refused-ending : (run : Machine → List ℕ → Ran) (m : Machine) (words : List ℕ) (n : ℕ) → (run m words .ending ≡ refused n → ⊥)
     → calledOf run m words .ending ≡ refused n → calledOf run m words ≡ ran m words 0 (refused n)
 unfolding calledOf

@@ -25,7 +25,7 @@ use Rattle.executions.proofs.Parts.{live, planned, frameFor, leaveNumbe
 use Rattle.executions.proofs.Fails.{Fails, judged-if, fails-accept, refused, fails-bind}
 use Rattle.executions.proofs.CheckNumbers.{static-judged, check-fails, read-fails, fetch-fails}
 use Rattle.executions.proofs.PlanNumbers.{plan-fails, frame-fails}
-use Rattle.executions.specs.Statements.{FaultNumber, RunNumber}
+use Rattle.executions.specs.Statements.{FaultNumber, RunNumber, ZeroCompletes}
 
 -- a step of any machine
 module _ (m : Machine) (words : List ℕ) where
@@ -70,8 +70,7 @@ pub fault-number : FaultNumber
 unfolding execute
 fault-number m words n e = refused _ n (fails-bind (decide m (fetch m words) (readWord m words)) (commit m words) (decide-fails m words) (commit-fails m words)) e
 
--- a step whose number is 0 did not fault
-pub zero-completes : (m : Machine) (words : List ℕ) → stepCall m words .number ≡ 0 → (n : ℕ) → execute m words ≡ refuse n → ⊥
+pub zero-completes : ZeroCompletes
 unfolding stepCall
 zero-completes m words z n e = by (eqb (judged m words) 0) refl (rw e at z)
   where

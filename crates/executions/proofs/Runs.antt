@@ -28,7 +28,7 @@ module _ (Kept : Machine → List ℕ → Type 0) (step : (m : Machine) (words :
     kept-after m words h rest (refuse f) q = h
     kept-after m words h rest (ok d) q =
         let h′ = step m words d q h in
-        kept-event (d .machine) (d .words) (d .event) h′ (rest (d .machine) (d .words) h′)
+        kept-event (d .machine) (d .words) (d .completion) h′ (rest (d .machine) (d .words) h′)
 
   pub run-keeps : (stretch : Bool) (k n : ℕ) (m : Machine) (words : List ℕ) → Kept m words → KeptBy (runFrom stretch k n m words)
   unfolding runFrom

@@ -26,7 +26,7 @@ module _ (k n : ℕ) where
       → after false (runFrom false k (n + 1)) n m words e ≡ afterStretch (n + suc k) (after true (runFrom true k (n + 1)) n m words e)
   unfolding afterStretch
   parted m words (refuse f) h = refl
-  parted m words (ok d) h = event-parted (d .machine) (d .words) (d .event) (h (d .machine) (d .words))
+  parted m words (ok d) h = event-parted (d .machine) (d .words) (d .completion) (h (d .machine) (d .words))
 
 pub run-stretches : RunStretches
 unfolding runFrom afterStretch
@@ -70,7 +70,7 @@ module _ (stretch : Bool) (k n : ℕ) where
   counted-after : (m : Machine) (words : List ℕ) (e : Answer Done) → ((m : Machine) (words : List ℕ) → CountedRun k (n + 1) (runFrom stretch k (n + 1) m words))
       → CountedRun (suc k) n (after stretch (runFrom stretch k (n + 1)) n m words e)
   counted-after m words (refuse f) h = ended (suc k) n n (faulted f) refl (omega arith) (omega arith)
-  counted-after m words (ok d) h = counted-event (d .machine) (d .words) (d .event) (h (d .machine) (d .words))
+  counted-after m words (ok d) h = counted-event (d .machine) (d .words) (d .completion) (h (d .machine) (d .words))
 
 pub counted : (stretch : Bool) (k n : ℕ) (m : Machine) (words : List ℕ)
     → Counted k n (runFrom stretch k n m words .count) (runFrom stretch k n m words .ending)

@@ -9,7 +9,7 @@ use Rattle.state.specs.declared.record.Machine.{Machine}
 use Rattle.state.specs.Bases.{wordsIn}
 use Rattle.soundness.specs.Sound.{soundTest}
 use Rattle.runs.specs.Step.{Done, execute}
-use Rattle.runs.specs.Run.{ran, spent, faulted, refused, runFrom}
+use Rattle.runs.specs.Run.{ran, spent, faulted, refused, runFrom, judged}
 use Rattle.processor.specs.Calls.{Step, stepCall, runCall, stretchCall}
 use Rattle.processor.specs.Steps.{afterStretch}
 
@@ -65,7 +65,22 @@ idle m words n = record { machine = m; words = words; number = n; halted = false
 abbrev pub FaultLeaves : Type 0
 FaultLeaves = (m : Machine) (words : List ℕ) → (stepCall m words .number ≡ 0 → ⊥) → stepCall m words ≡ idle m words (stepCall m words .number)
 
--- a refused run and a refused stretch changed nothing and counted nothing
+-- a step whose number is 0 did not fault
+abbrev pub ZeroCompletes : Type 0
+ZeroCompletes = (m : Machine) (words : List ℕ) → stepCall m words .number ≡ 0 → (n : ℕ) → execute m words ≡ refuse n → ⊥
+
+-- a call on a record that is not sound, or with a memory that is too short, is refused, changed nothing and counted nothing
+abbrev pub RefusedStep : Type 0
+RefusedStep = (m : Machine) (words : List ℕ) → (judged m words ≡ 0 → ⊥) → stepCall m words ≡ idle m words (judged m words)
+
+abbrev pub RefusedRun : Type 0
+RefusedRun = (m : Machine) (words : List ℕ) (limit : ℕ) → (judged m words ≡ 0 → ⊥) → runCall limit m words ≡ ran m words 0 (refused (judged m words))
+
+abbrev pub RefusedStretch : Type 0
+RefusedStretch =
+    (m : Machine) (words : List ℕ) (limit : ℕ) → (judged m words ≡ 0 → ⊥) → stretchCall limit m words ≡ ran m words 0 (refused (judged m words))
+
+-- a run and a stretch that end as refused changed nothing and counted nothing
 abbrev pub RefusedLeaves : Type 0
 RefusedLeaves =
     (limit : ℕ) (m : Machine) (words : List ℕ) (n : ℕ) → runCall limit m words .ending ≡ refused n → runCall limit m words ≡ ran m words 0 (refused n)

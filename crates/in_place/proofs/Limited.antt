@@ -51,7 +51,7 @@ use Rattle.in_place.specs.InPlace.{ranInPlace}
 use Rattle.in_place.specs.declared.RunResult.{RunResult}
 use Rattle.in_place.proofs.RunResult as R
 use Rattle.in_place.proofs.RunResult.Laws as R′
-use Rattle.in_place.proofs.run as lent
+use Rattle.in_place.proofs.run as in-place
 
 -- the MIR of the function that calls f
 abbrev pub function : Name → Fn
@@ -76,23 +76,23 @@ function f =
 abbrev pub Definition : Type 0
 Definition = ℕ → Machine → List ℕ → Ran
 
-abbrev pub Shown : Definition → (κs : Lfts 2) → Args lent.signature κs → RunResult → AtExit lent.ended κs → Type 0
+abbrev pub Shown : Definition → (κs : Lfts 2) → Args in-place.signature κs → RunResult → AtExit in-place.ended κs → Type 0
 Shown Call κs a r e = ranInPlace (now (e .0)) (now (e .1 .0)) r ≡ Call (a .1 .1 .0) (now (a .0)) (now (a .1 .0))
 
 module _ {M : Type 1} (𝓤 : URA M) (Call : Definition) where
   abbrev callee-clauses : Clauses 𝓤 callee.ended
   callee-clauses κs a = record { ghost = Unit {0}; requires = λ g. emp 𝓤; ensures = λ g o e. fact 𝓤 (ranAnswer o (now (e .1 .0)) ≡ Call (a .1 .1 .0) (a .0) (now (a .1 .0))) }
 
-  abbrev clauses : Clauses 𝓤 lent.ended
+  abbrev clauses : Clauses 𝓤 in-place.ended
   clauses κs a = record { ghost = Unit {0}; requires = λ g. emp 𝓤; ensures = λ g r e. fact 𝓤 (Shown Call κs a r e) }
 
   abbrev pub Callee : (H : Heap 𝓤) → Atoms 𝓤 → Contract 𝓤
   Callee H A = tripleOf 𝓤 H A callee.signature (closing 𝓤 H A callee.ended callee-clauses)
 
   abbrev pub Meets-it : (H : Heap 𝓤) → Atoms 𝓤 → Fun 𝓤 → Type 1
-  Meets-it H A run = Meets 𝓤 H A lent.signature run (closing 𝓤 H A lent.ended clauses)
+  Meets-it H A run = Meets 𝓤 H A in-place.signature run (closing 𝓤 H A in-place.ended clauses)
 
-abbrev stayed : Stays (lent.ended .signature .params) (lent.ended .kept)
+abbrev stayed : Stays (in-place.ended .signature .params) (in-place.ended .kept)
 stayed = (stay-ref (0 ∷ []) tt (plain (λ _. T.the-row)), (gave-slice (1 ∷ []) tt (plain (λ _. u32)), (stay-dropped (plain (λ _. u16)) yes, tt)))
 
 -- the machine value of a record
@@ -145,7 +145,7 @@ module _ {M : Type 1} (𝓤 : URA M) (H : Heap 𝓤) (A : Atoms 𝓤) (W : Given
   mach = LL.val T.the-type T′.the-laws h
 
   abbrev Post : Val → SProp 𝓤
-  Post = walkOf 𝓤 H A lent.ended stayed (clauses 𝓤 Call) .post (((κ, (κ′, tt)), (q, (q′, tt)), tt, a, at), tt)
+  Post = walkOf 𝓤 H A in-place.ended stayed (clauses 𝓤 Call) .post (((κ, (κ′, tt)), (q, (q′, tt)), tt, a, at), tt)
 
   abbrev Said : Outcome → List ℕ → Type 0
   Said r zs = ranAnswer r zs ≡ Call limit h ys
@@ -163,7 +163,7 @@ module _ {M : Type 1} (𝓤 : URA M) (H : Heap 𝓤) (A : Atoms 𝓤) (W : Given
       → ent 𝓤 (⋆ 𝓤 H A (‵ (fobs γ (T.the-row .coded .code (r .machine))) ∷ ‵ (fbor κ (Body (mem T.the-row) b o γ)) ∷ ‵ (flft κ q) ∷ Token ∷ ‵ (finally u32 (x .name) zs) ∷ [])) (Post (answer r))
   exits r zs e l is =
       qed W (‵ (fobs γ (T.the-row .coded .code (r .machine))) ∷ ‵ (fbor κ (Body (mem T.the-row) b o γ)) ∷ ‵ (flft κ q) ∷ Token ∷ ‵ (finally u32 (x .name) zs) ∷ []) ∵
-      suffices ! _ (ends-at 𝓤 H A lent.ended stayed (clauses 𝓤 Call) W (((κ, (κ′, tt)), (q, (q′, tt)), tt, a, at), tt) (answer r) (told r) (r .machine, (zs, (tt, tt))) (tt, (l, (tt, tt)))) $
+      suffices ! _ (ends-at 𝓤 H A in-place.ended stayed (clauses 𝓤 Call) W (((κ, (κ′, tt)), (q, (q′, tt)), tt, a, at), tt) (answer r) (told r) (r .machine, (zs, (tt, tt))) (tt, (l, (tt, tt)))) $
       says ! e $
       move ! (2 ∷ 3 ∷ []) $ join ! $ frame ! $
       -- [obs; the borrow; the last words]
@@ -171,7 +171,7 @@ module _ {M : Type 1} (𝓤 : URA M) (H : Heap 𝓤) (A : Atoms 𝓤) (W : Given
       owned ! R.the-row (Is R.the-row) (LL.makes R.the-type R′.the-plain 𝓤 H A) (told r) _ is $ done !
 
   module _ (C : Calls 𝓤 H) (Λ : Loops 𝓤 H) (fm : FmC 𝓤 H (W .laws) C) (known : Triple 𝓤 (C f) (Callee 𝓤 Call H A)) where
-    walk : Room u32 (length ys) → limit < 2 ^ 16 → ent 𝓤 (onEntry 𝓤 H A lent.signature (κ, (κ′, tt)) (q, (q′, tt)) a at) (WpFn 𝓤 H C Λ (function f) (vptr b o ∷ s ∷ vint w16 limit ∷ []) Post)
+    walk : Room u32 (length ys) → limit < 2 ^ 16 → ent 𝓤 (onEntry 𝓤 H A in-place.signature (κ, (κ′, tt)) (q, (q′, tt)) a at) (WpFn 𝓤 H C Λ (function f) (vptr b o ∷ s ∷ vint w16 limit ∷ []) Post)
     walk room fits =
         qed W ((‵ (flft κ q) ⊛ Token) ∷ ‵ (owns (MutRef (named 0) κ T.the-row ∷ Types) a at) ∷ []) ∵ enter ! C Λ (function f) (vptr b o ∷ s ∷ vint w16 limit ∷ []) _ $
         alloc1 ! (λ l₀. alloc1 ! (λ l₁. alloc1 ! (λ l₂. alloc1 ! (λ l₃. alloc1 ! (λ l₄. alloc1 ! (λ l₅. alloc1 ! (λ l₆. alloc1 ! (λ l₇. alloc0 ! $ params1 ! $
@@ -205,13 +205,13 @@ module _ {M : Type 1} (𝓤 : URA M) (H : Heap 𝓤) (A : Atoms 𝓤) (W : Given
         keep ! (0 ∷ 1 ∷ 2 ∷ 3 ∷ 4 ∷ []) $ by ! (exits r (zs .1 .0) e l (tells-told r w is))))))))))))))))))
 
 module _ {M : Type 1} (𝓤 : URA M) (H : Heap 𝓤) (A : Atoms 𝓤) (W : Given 𝓤 H A) (f : Name) (Call : Definition) where
-  walks : (C : Calls 𝓤 H) (Λ : Loops 𝓤 H) → FmC 𝓤 H (W .laws) C → Triple 𝓤 (C f) (Callee 𝓤 Call H A) → Walks 𝓤 H A lent.ended stayed (WpFn 𝓤 H C Λ (function f)) (clauses 𝓤 Call)
-  walks C Λ fm known = walked 𝓤 H A lent.ended stayed (clauses 𝓤 Call) (WpFn 𝓤 H C Λ (function f))
+  walks : (C : Calls 𝓤 H) (Λ : Loops 𝓤 H) → FmC 𝓤 H (W .laws) C → Triple 𝓤 (C f) (Callee 𝓤 Call H A) → Walks 𝓤 H A in-place.ended stayed (WpFn 𝓤 H C Λ (function f)) (clauses 𝓤 Call)
+  walks C Λ fm known = walked 𝓤 H A in-place.ended stayed (clauses 𝓤 Call) (WpFn 𝓤 H C Λ (function f))
       (λ κs. (ptr-vals, (slice-vals, (uint-vals w16, tt)))) (λ κs. (mut-tells (named 0) (κs .0) T.the-row, (mut-slice-tells (named 1) (κs .1 .0) u32, (uint-tells w16, tt))))
       (λ κs qs bounds a g are. via 𝓤 _ (fst∗ 𝓤 _ (emp 𝓤))
       (walk 𝓤 H A W f Call (κs .0) (κs .1 .0) (qs .0) (qs .1 .0) (a .0 .ptr .0) (a .0 .ptr .1) (a .0 .name) (a .0 .now) (a .1 .0) (a .1 .1 .0) C Λ fm known (are .1 .0 .0 .1) (are .1 .1 .0 .1)))
 
   pub meets : (𝓣 : Tables 𝓤 H) → Triple 𝓤 (𝓣 .C f) (Callee 𝓤 Call H A) → Meets-it 𝓤 Call H A (WpFn 𝓤 H (𝓣 .C) (𝓣 .Λ) (function f))
   meets 𝓣 known =
-      walk-meets 𝓤 H A lent.ended stayed W (goes-ref 𝓤 H A W 2 0 tt (plain (λ _. T.the-row)), (goes-gave-slice 𝓤 H A W 2 1 tt (plain (λ _. u32)), (goes-dropped 𝓤 H A W 2 (plain (λ _. u16)) yes (λ κs x f. refl), tt))) (clauses 𝓤 Call)
+      walk-meets 𝓤 H A in-place.ended stayed W (goes-ref 𝓤 H A W 2 0 tt (plain (λ _. T.the-row)), (goes-gave-slice 𝓤 H A W 2 1 tt (plain (λ _. u32)), (goes-dropped 𝓤 H A W 2 (plain (λ _. u16)) yes (λ κs x f. refl), tt))) (clauses 𝓤 Call)
       (WpFn 𝓤 H (𝓣 .C) (𝓣 .Λ) (function f)) (WpFn-mono 𝓤 H (W .laws) 𝓣 (function f)) (walks (𝓣 .C) (𝓣 .Λ) (fmOf 𝓤 H (W .laws) 𝓣) known)

@@ -13,8 +13,6 @@ use Rattle.state.specs.declared.record.Frame.{Frame}
 use Rattle.instructions.specs.declared.cycle.Cycle.{Cycle}
 use Rattle.instructions.specs.Instruction.{operateOf, JUMP, RET, takenOf}
 use Rattle.instructions.specs.Cycle.{Progress, moved, entering, cycleAnswer, movedRegisters, settled}
-use Rattle.references.specs.declared.flag.Access.the-variants as access
-use Rattle.instructions.specs.declared.cycle.Event.the-variants as event
 
 -- whether an opcode jumps to an effective pointer of this tag
 unfoldable pub jumpsOf : ℕ → ℕ → Bool → Bool

@@ -31,7 +31,7 @@ run-is-stretch (suc k) n m w h = by (execute m w) (run-is-stretch k (n + 1)) h
     by : (d : Answer Done) → ((m : Machine) (w : List ℕ) → Same k (n + 1) m w) → (after true (runFrom true k (n + 1)) n m w d .ending ≡ crossed → ⊥)
         → after false (runFrom false k (n + 1)) n m w d ≡ after true (runFrom true k (n + 1)) n m w d
     by (refuse f) rest h = refl
-    by (ok d) rest h = event (d .event) (d .machine) (d .words) (rest (d .machine) (d .words)) h
+    by (ok d) rest h = event (d .completion) (d .machine) (d .words) (rest (d .machine) (d .words)) h
 
 pub secrecy : Secrecy
 secrecy m limit w few hw s k x e hidden = isolation-fits m limit w _ few hw (rw length-set hw) (hidden-agrees m w s k x e hidden)

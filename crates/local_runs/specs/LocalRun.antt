@@ -1,6 +1,5 @@
 -- A local run: instructions inside the executing domain, up to the first that ends a run or crosses.
-use Prim.Native.Nat.{ℕ, zero, suc, _+_, _-_}
-use mathlib.Core.Bool.{Bool, true, false}
+use Prim.Native.Nat.{ℕ, zero, suc, _+_}
 use mathlib.Core.List.{List}
 use Rattle.words.specs.Answer.{Answer, refuse, ok}
 use Rattle.words.specs.declared.pointer.Pointer.{Pointer}

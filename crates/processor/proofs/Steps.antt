@@ -45,7 +45,7 @@ module _ (n c : ℕ) where
 
   step-on : (m : Machine) (words : List ℕ) (e : Answer Done) → advances n (one m words e) ≡ after false more c m words e
   step-on m words (refuse f) = faulted-stays n m words c f
-  step-on m words (ok d) = event-on (d .machine) (d .words) (d .event)
+  step-on m words (ok d) = event-on (d .machine) (d .words) (d .completion)
 
 -- n steps of a run that has completed c
 pub steps-from : (n c : ℕ) (m : Machine) (words : List ℕ) → runFrom false n c m words ≡ advances n (ran m words c spent)
@@ -60,7 +60,7 @@ run-steps n m words = steps-from n 0 m words
 
 -- a step is a run of limit 1
 module _ (m : Machine) (words : List ℕ) where
-  event-one : (n : Machine) (w : List ℕ) (e : Completion) → asStep (afterCompletion false (runFrom false 0 1) 0 n w e) ≡ stepped m words (ok (record { machine = n; words = w; event = e }))
+  event-one : (n : Machine) (w : List ℕ) (e : Completion) → asStep (afterCompletion false (runFrom false 0 1) 0 n w e) ≡ stepped m words (ok (record { machine = n; words = w; completion = e }))
   unfolding runFrom
   event-one n w stopped = refl
   event-one n w proceeded = refl
@@ -68,7 +68,7 @@ module _ (m : Machine) (words : List ℕ) where
 
   done-one : (e : Answer Done) → asStep (after false (runFrom false 0 1) 0 m words e) ≡ stepped m words e
   done-one (refuse f) = refl
-  done-one (ok d) = event-one (d .machine) (d .words) (d .event)
+  done-one (ok d) = event-one (d .machine) (d .words) (d .completion)
 
   pub run-one : asStep (runOf 1 m words) ≡ stepped m words (execute m words)
   unfolding runFrom

@@ -32,7 +32,7 @@ pub record Step : Type 0 where
 
 abbrev pub stepped : Machine → List ℕ → Answer Done → Step
 stepped m words (refuse n) = record { machine = m; words = words; number = n; halted = false }
-stepped m words (ok d) = record { machine = d .machine; words = d .words; number = 0; halted = isStop (d .event) }
+stepped m words (ok d) = record { machine = d .machine; words = d .words; number = 0; halted = isStop (d .completion) }
 
 -- the call of a step
 unfoldable pub stepCall : Machine → List ℕ → Step

@@ -43,7 +43,7 @@ isHalted crossed = false
 isHalted (faulted n) = false
 isHalted (refused n) = false
 
--- a run of one instruction as a step's asStep
+-- a run of one instruction as a step's answer
 abbrev pub asStep : Ran → Step
 asStep r = record { machine = r .machine; words = r .words; number = endingNumber (r .ending); halted = isHalted (r .ending) }
 

@@ -3,7 +3,6 @@ use Prim.Native.Nat.{ℕ}
 use lib.Dec.{ltb}
 use Rattle.words.specs.Answer.{Answer, refuse, ok, if_then_else_}
 use Rattle.words.specs.Numbers.{noMatch}
-use Rattle.references.specs.declared.live.SourceAnswer.the-variants as variant
 
 -- what a source given as a number stands for: none from 256 up
 abbrev pub codeAnswer : ℕ → Answer ℕ

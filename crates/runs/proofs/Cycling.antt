@@ -101,7 +101,7 @@ module _ (stretch : Bool) (limit k n : ℕ) (count : limit - (n + 1) ≡ k) (m :
   abbrev bases : List ℕ
   bases = basesOf (m .layout .lengths)
 
-  -- the run after an instruction that cycled out so, the words after it given
+  -- the run after an instruction that came so far, the words after it given
   abbrev pub cycled : List ℕ → Answer Progress → Ran
   cycled next (refuse f) = ran m next n (faulted f)
   cycled next (ok ended) = ran m next (n + 1) halted

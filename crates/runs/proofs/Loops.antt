@@ -14,7 +14,7 @@ use Rattle.state.specs.Bases.{basesOf}
 use Rattle.runs.specs.declared.outcome.End.{End}
 use Rattle.runs.specs.declared.outcome.End.the-variants as end
 use Rattle.local_runs.specs.declared.Pause.{Pause}
-use Rattle.runs.specs.declared.resume.Crossing.{Crossing}
+use Rattle.runs.specs.declared.resume.Resumption.{Resumption}
 use Rattle.runs.specs.Run.{Ran, ran, crossed, runFrom, endAnswer}
 use Rattle.local_runs.specs.LocalRun.{Paused, localFrom}
 use Rattle.runs.specs.Private.{Resumed, resumeBy, resumeAnswer, resumeOf, Countable}
@@ -53,7 +53,7 @@ module _ (stretch : Bool) (limit : ℕ) (m₀ : Machine) (words₀ : List ℕ) (
     pub countable : limit ≤ 65535 → Countable (t .count) (t .event)
     countable h = fine-countable (m .depth) n limit (t .count) h (t .event) (pauses .fine)
 
-    module _ (c : Crossing) (ec : resumeAnswer c ≡ resumeOf (m .layout .lengths) (m .layout .rights) places (m .layout .gatedomains) (m .layout .stacks) w (m .depth) frame (t .registers) (t .pointers) (t .count) (t .event)) where
+    module _ (c : Resumption) (ec : resumeAnswer c ≡ resumeOf (m .layout .lengths) (m .layout .rights) places (m .layout .gatedomains) (m .layout .stacks) w (m .depth) frame (t .registers) (t .pointers) (t .count) (t .event)) where
       -- the whole run goes on from the crossing's answer
       pub rested : runFrom stretch limit 0 m₀ words₀ ≡ continued stretch limit (withParts m (t .registers) (t .pointers)) w (resumeAnswer c)
       rested = l .rest ∙ run-resumes stretch limit (limit - n) n (omega (arith, l .within)) m (simp (le-leb _ _ (l .most)) refl) words ∙ rw (ec, et, ew, live, here) refl

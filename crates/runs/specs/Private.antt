@@ -14,7 +14,7 @@ use Rattle.arguments.specs.ArgumentList.{frameOf}
 use Rattle.crossings.specs.Crossing.{leaveCheck}
 use Rattle.runs.specs.declared.outcome.End.{End}
 use Rattle.runs.specs.declared.outcome.End.the-variants as end
-use Rattle.runs.specs.declared.resume.Crossing.{Crossing}
+use Rattle.runs.specs.declared.resume.Resumption.{Resumption}
 use Rattle.runs.specs.Run.{Ending, halted, spent, faulted, refused}
 use Rattle.crossings.specs.Parts.{Changes, enterParts, leaveParts}
 
@@ -23,14 +23,14 @@ pub data Resumed : Type 0 where
   ends : Registers → List Pointer → ℕ → Ending → Resumed
   goes : ℕ → ℕ → ℕ → Changes → Resumed
 
-abbrev pub resumeBy : Crossing → End → Resumed
+abbrev pub resumeBy : Resumption → End → Resumed
 resumeBy c end.Halted = ends (c .registers) (c .pointers) (c .count) halted
 resumeBy c (end.Faulted n) = ends (c .registers) (c .pointers) (c .count) (faulted n)
 resumeBy c end.Spent = ends (c .registers) (c .pointers) (c .count) spent
 resumeBy c end.Crossed = goes (c .count) (c .row) (c .depth) (record { frame = c .frame; pointers = c .pointers; registers = c .registers })
 resumeBy c (end.Refused n) = ends (c .registers) (c .pointers) (c .count) (refused n)
 
-abbrev pub resumeAnswer : Crossing → Resumed
+abbrev pub resumeAnswer : Resumption → Resumed
 resumeAnswer c = resumeBy c (c .end)
 
 -- what may be counted after n instructions: one that is completed has a number of 16 bits

@@ -36,7 +36,7 @@ afterCompletion stretch go n m words crossing = if stretch then ran m words (n +
 -- after an instruction: one that faults ends the run and is not counted
 abbrev pub after : Bool → (Machine → List ℕ → Ran) → ℕ → Machine → List ℕ → Answer Done → Ran
 after stretch go n m words (refuse f) = ran m words n (faulted f)
-after stretch go n m words (ok d) = afterCompletion stretch go n (d .machine) (d .words) (d .event)
+after stretch go n m words (ok d) = afterCompletion stretch go n (d .machine) (d .words) (d .completion)
 
 -- at most k instructions more, n completed so far
 unfoldable pub runFrom : Bool → ℕ → ℕ → Machine → List ℕ → Ran

@@ -3,9 +3,8 @@ use Prim.Native.Nat.{ℕ, _+_}
 use mathlib.Core.Bool.{Bool, true, false}
 use mathlib.Core.List.{List}
 use lib.ListN.{set}
-use Rattle.words.specs.Answer.{Answer, refuse, ok, _>>=_}
+use Rattle.words.specs.Answer.{Answer, ok, _>>=_}
 use Rattle.words.specs.declared.pointer.Pointer.{Pointer}
-use Rattle.state.specs.declared.record.Registers.{Registers}
 use Rattle.state.specs.declared.record.Machine.{Machine}
 use Rattle.references.specs.declared.flag.Access.the-variants as access
 use Rattle.references.specs.Check.{check}
@@ -44,10 +43,10 @@ movedTo m a segment word pointers =
 pub record Done : Type 0 where
   pub machine : Machine
   pub words : List ℕ
-  pub event : Completion
+  pub completion : Completion
 
 abbrev pub done : Machine → List ℕ → Completion → Done
-done m words e = record { machine = m; words = words; event = e }
+done m words e = record { machine = m; words = words; completion = e }
 
 -- a plan with its crossing made
 abbrev pub resolve : Machine → Reader → Plan → Answer Act

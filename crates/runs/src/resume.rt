@@ -14,7 +14,7 @@ use state::record::Registers;
 use words::pointer::Pointer;
 
 // Where the end is Crossed: the frame's row, and the frames in use after it. Else only registers, pointers and count tell something.
-pub struct Crossing {
+pub struct Resumption {
     pub frame: Frame,
     pub pointers: [Pointer; 8],
     pub registers: Registers,
@@ -35,10 +35,17 @@ fn below(depth: u8) -> u8
 }
 
 // An ending that is no crossing.
-fn stop(frame: Frame, r: Registers, pointers: [Pointer; 8], n: u16, depth: u8, end: End) -> Crossing
+fn stop(
+    frame: Frame,
+    r: Registers,
+    pointers: [Pointer; 8],
+    n: u16,
+    depth: u8,
+    end: End,
+) -> Resumption
     ensures { λ x. ⌜ x ≡ record { frame = frame; pointers = pointers; registers = r; count = n; row = depth; depth = depth; end = end } ⌝ }
 {
-    Crossing {
+    Resumption {
         frame,
         pointers,
         registers: r,
@@ -57,13 +64,13 @@ fn resume_crossed(
     n: u16,
     row: u8,
     depth: u8,
-) -> Crossing
+) -> Resumption
     requires { ⌜ n < 65535 ⌝ }
     ensures { λ x. ⌜ resumeAnswer x ≡ resumeAfter r pointers n row depth (crossedAnswer c) ⌝ }
 {
     let frame = c.frame;
     if c.refused {
-        return Crossing {
+        return Resumption {
             frame,
             pointers,
             registers: r,
@@ -76,7 +83,7 @@ fn resume_crossed(
     let changed = c.pointers;
     let registers = c.registers;
     let next = n + 1;
-    Crossing {
+    Resumption {
         frame,
         pointers: changed,
         registers,
@@ -101,7 +108,7 @@ pub fn resume<'a>(
     pointers: [Pointer; 8],
     n: u16,
     event: Event,
-) -> Crossing
+) -> Resumption
     requires { ⌜ Countable n event ⌝ }
     requires { ⌜ depth ≤ 8 ⌝ }
     ensures { λ c. ⌜ resumeAnswer c ≡ resumeOf (now (lengths .entry)) (now (rights .entry)) (now (bases .entry)) (now (gatedomains .entry)) (now (stacks .entry)) (now (words .entry)) depth frame r pointers n event ⌝ }

@@ -17,7 +17,7 @@ use Rattle.snapshot_writer.specs.Tabulate.{tabulate}
 use Rattle.snapshot_reader.specs.Read.{byteAt, pairAt, pointerAt, capabilityAt, frameAt, layoutAt, registersAt, recordOf}
 use Rattle.snapshot_writer.specs.Write.{wordByte, pointerByte, capabilityByte, frameByte, segmentByte, domainByte, placeByte, startByte, layoutByte, byteOf, recordBytes}
 use Rattle.snapshot_writer.proofs.Fill.{tabulate-at, filled-all}
-use Rattle.snapshot_reader.specs.Statements.{FullArrays, RecordReadBack}
+use Rattle.snapshot_reader.specs.Statements.{FullArrays, RecordRoundTrip}
 
 -- a list is given by what it holds at each index
 given-by : {A : Type 0} (n : ℕ) (d : A) (f : ℕ → A) (xs : List A) → length xs ≡ n → ((k : ℕ) → k < n → f k ≡ getD xs k d) → tabulate n f ≡ xs
@@ -207,5 +207,5 @@ module _ (m : Machine) where
           depth = place-part 258 4 refl (omega arith) j;
         }
 
-pub round-trip : RecordReadBack
-round-trip m w = read-back m w
+pub record-round-trip : RecordRoundTrip
+record-round-trip m w = read-back m w

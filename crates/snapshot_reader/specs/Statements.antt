@@ -19,5 +19,5 @@ pub record FullArrays (m : Machine) : Type 0 where
   pub capabilities : (i : ℕ) → i < 8 → length (getD (m .frames) i noFrame .capabilities) ≡ 9
 
 -- a record is read back from its bytes
-abbrev pub RecordReadBack : Type 0
-RecordReadBack = (m : Machine) → FullArrays m → recordOf (recordBytes m) ≡ m
+abbrev pub RecordRoundTrip : Type 0
+RecordRoundTrip = (m : Machine) → FullArrays m → recordOf (recordBytes m) ≡ m

@@ -1,7 +1,6 @@
 -- Mode words: bits 0-12 length 1-4,096, bit 30 read, bit 31 write, others zero, at least one flag.
 use Prim.Native.Nat.{ℕ, _+_}
 use lib.Dec.{eqb, leb}
-use mathlib.Core.Bool.{not}
 use Rattle.words.specs.Answer.{Answer, refuse, ok, _>>_, require}
 use Rattle.words.specs.Numbers.{badArgument}
 use Rattle.words.specs.Field.{field}

@@ -53,7 +53,7 @@ use Rattle.processor.proofs.step.Met as callee-thm
 use Rattle.in_place.specs.declared.StepResult.{StepResult}
 use Rattle.in_place.proofs.StepResult as R
 use Rattle.in_place.proofs.StepResult.Laws as R′
-use Rattle.in_place.proofs.step.Key.{name as #lent·step}
+use Rattle.in_place.proofs.step.Key.{name as #in-place·step}
 use Rattle.in_place.proofs.step as step
 use Rattle.in_place.proofs.step.Statement as stated
 use Rattle.in_place.proofs.step.Code as code
@@ -176,6 +176,6 @@ pub step-spec : {M : Type 1} → stated.statement M
 unfolding code.routine tablesOf
 step-spec 𝓤 H 𝓜 𝓖 𝓡 =
     entered 𝓤 H (tripleOf 𝓤 H (𝓖 .A) step.signature (step.spec 𝓤 H (𝓖 .A) (𝓜 .mem) (𝓡 .run)))
-    (tables 𝓤 H 𝓜 𝓡 code.env .C) (tables 𝓤 H 𝓜 𝓡 code.env .Λ) #lent·step code.function (code.unfolded 𝓤 H 𝓜 𝓡)
+    (tables 𝓤 H 𝓜 𝓡 code.env .C) (tables 𝓤 H 𝓜 𝓡 code.env .Λ) #in-place·step code.function (code.unfolded 𝓤 H 𝓜 𝓡)
     (step-meets 𝓤 H (𝓖 .A) (givenOf 𝓤 H 𝓜 𝓖) (𝓜 .mem) (𝓡 .run) (tablesOf 𝓤 H 𝓜 (tables 𝓤 H 𝓜 𝓡 code.env))
     (cited 𝓤 H (Callee 𝓤 H (𝓖 .A) (𝓜 .mem) (𝓡 .run)) 𝓜 𝓡 code.env #callee callee-def.routine code.calls-processor·step (callee-thm.met 𝓤 H 𝓜 𝓖 𝓡)))
