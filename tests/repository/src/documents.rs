@@ -66,7 +66,7 @@ pub fn paths(document: &File, crates: &[String], root: &Path) -> Vec<String> {
 }
 
 /// The paths that `{a,b}` in a path stands for.
-fn alternatives(path: &str) -> Vec<String> {
+pub fn alternatives(path: &str) -> Vec<String> {
     let Some((before, rest)) = path.split_once('{') else {
         return vec![path.to_string()];
     };

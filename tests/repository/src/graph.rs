@@ -85,19 +85,42 @@ impl Graph {
         self.reached(cited.collect())
     }
 
-    /// A definition's type and body with each name as its path, its own as `_`.
+    /// A definition's type and body with each name as its path, its own as `_`, and the
+    /// parameters of each clause by their places.
     pub fn meaning(&self, definition: &Definition) -> String {
-        let names = &self.names[&definition.file];
         let text = format!("{}\n{}", definition.context, definition.text);
-        let words = tokens(&text)
-            .into_iter()
-            .map(|word| match names.path(word) {
-                Some(path) if path == definition.path() => "_".to_string(),
-                // a constructor behind its type has the type's path
-                Some(path) if word.contains('.') => format!("{path} {word}"),
-                Some(path) => path,
-                None => word.to_string(),
-            });
-        words.collect::<Vec<_>>().join(" ")
+        let (mut parameters, mut words) = (Vec::new(), Vec::new());
+        for line in text.lines() {
+            if let Some(begun) = self.clause(definition, line) {
+                parameters = begun;
+            }
+            let tokens = tokens(line).into_iter();
+            words.extend(tokens.map(|word| self.word(definition, &parameters, word)));
+        }
+        words.join(" ")
+    }
+
+    /// The parameters of the clause that a line begins: what names nothing before its `=`.
+    fn clause<'a>(&self, definition: &Definition, line: &'a str) -> Option<Vec<&'a str>> {
+        let names = &self.names[&definition.file];
+        let words = tokens(line);
+        let (name, words) = words.split_first()?;
+        let end = words.iter().position(|word| *word == "=")?;
+        let is_named =
+            |word: &&str| names.path(word).is_none() && word.starts_with(char::is_alphabetic);
+        let words = words[..end].iter().copied().filter(is_named);
+        (*name == definition.name).then(|| words.collect())
+    }
+
+    fn word(&self, definition: &Definition, parameters: &[&str], word: &str) -> String {
+        let place = parameters.iter().position(|parameter| *parameter == word);
+        match (place, self.names[&definition.file].path(word)) {
+            (Some(place), _) => format!("#{place}"),
+            (None, Some(path)) if path == definition.path() => "_".to_string(),
+            // a constructor behind its type has the type's path
+            (None, Some(path)) if word.contains('.') => format!("{path} {word}"),
+            (None, Some(path)) => path,
+            (None, None) => word.to_string(),
+        }
     }
 }

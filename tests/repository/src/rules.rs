@@ -108,23 +108,35 @@ pub fn loose_contracts(graph: &Graph) -> Vec<String> {
     found
 }
 
-/// The propositions that the signatures in a file of proofs name, by their paths.
-fn proved(file: &File) -> Vec<String> {
-    let names = Names::of(&file.text);
-    let proofs = definitions(file);
-    let signatures = proofs
-        .iter()
-        .filter_map(|proof| proof.text.lines().next()?.split_once(" : "));
-    signatures
-        .filter_map(|(_, proposition)| names.path(proposition))
-        .collect()
+/// The name of a statement's proof: that of `RunSteps` is `run-steps`.
+fn proof_name(statement: &str) -> String {
+    let mut name = String::new();
+    for c in statement.chars() {
+        if c.is_uppercase() && !name.is_empty() {
+            name.push('-');
+        }
+        name.extend(c.to_lowercase());
+    }
+    name
 }
 
-/// Propositions in the files of statements that no proof has as its type.
+/// The proofs in a file, each with the path of the proposition that its signature names.
+fn proved(file: &File) -> Vec<(String, String)> {
+    let names = Names::of(&file.text);
+    let proofs = definitions(file).into_iter();
+    let signed = proofs.filter_map(|proof| {
+        let (_, proposition) = proof.text.lines().next()?.split_once(" : ")?;
+        Some((proof.name.clone(), names.path(proposition)?))
+    });
+    signed.collect()
+}
+
+/// Propositions in the files of statements that no proof of their name has as its type.
 pub fn unproved(graph: &Graph, proofs: &[File]) -> Vec<String> {
     let proved: BTreeSet<_> = proofs.iter().flat_map(proved).collect();
     let stated = graph.definitions.values();
     let stated = stated.filter(|one| is_statement(one) && one.is_proposition());
-    let unproved = stated.filter(|statement| !proved.contains(&statement.path()));
+    let proof = |statement: &Definition| (proof_name(&statement.name), statement.path());
+    let unproved = stated.filter(|statement| !proved.contains(&proof(statement)));
     unproved.map(Definition::place).collect()
 }

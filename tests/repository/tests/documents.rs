@@ -1,8 +1,11 @@
 //! What the documents name is there.
 
-use repository::documents::{self, exists, paths, rows};
+use std::collections::BTreeSet;
+
+use repository::documents::{self, alternatives, exists, paths, rows};
 use repository::expect_none;
-use repository::files::{crates, read, root};
+use repository::files::{crates, of_crates, read, root};
+use repository::rules::PRIVATE_FILE;
 
 #[test]
 fn documents() {
@@ -27,4 +30,17 @@ fn crates_have_rows() {
     let gone = gone.map(|name| format!("{name} has a row and is no crate"));
     let found = without.chain(gone).collect();
     expect_none("docs/ARCHITECTURE.md has a row for each crate", found);
+}
+
+/// The map leads to each file of definitions; those of private functions need not be believed.
+#[test]
+fn map_is_whole() {
+    let named = paths(&read("docs/MAP.md"), &crates(), &root());
+    let named: BTreeSet<_> = named.iter().flat_map(|path| alternatives(path)).collect();
+    let specs = of_crates("specs", ".antt").into_iter();
+    let specs = specs.filter(|file| !file.path.ends_with("/Lib.antt"));
+    let believed = specs.filter(|file| !file.path.ends_with(PRIVATE_FILE));
+    let missing = believed.filter(|file| !named.contains(&file.path));
+    let missing = missing.map(|file| file.path).collect();
+    expect_none("docs/MAP.md names each file of definitions", missing);
 }

@@ -96,6 +96,8 @@ fn unproved_statements_are_reported() {
     assert_eq!(unproved("pub stated : Stated\nstated = refl\n"), NONE);
     let expected = ["crates/a/specs/Statements.antt: Stated"];
     assert_eq!(unproved("pub law : Stated → ℕ\nlaw s = 1\n"), expected);
+    let expected = ["crates/a/specs/Statements.antt: Stated"];
+    assert_eq!(unproved("pub other : Stated\nother = refl\n"), expected);
 }
 
 const ONE: &str = "\
@@ -112,6 +114,12 @@ answer = variant.Word 1
 
 abbrev pub nested : ℕ
 nested = f (g 1)
+
+abbrev pub lengthOf : ℕ → ℕ → ℕ
+lengthOf lengths segment = getD lengths segment 0
+
+abbrev pub swapped : ℕ → ℕ → ℕ
+swapped a b = getD b a 0
 ";
 const TWO: &str = "\
 use Rattle.r.specs.R.{none, Frame}
@@ -132,6 +140,9 @@ flat = f g 1
 
 abbrev LOAD : ℕ
 LOAD = 7
+
+abbrev pub gatesOf : ℕ → ℕ → ℕ
+gatesOf gates i = getD gates i 0
 ";
 
 #[test]
@@ -141,6 +152,9 @@ fn duplicates_are_reported() {
     let graph = Graph::new(&[one, two], &[]);
     let expected = ["LOAD: crates/a/specs/One.antt, crates/b/specs/Two.antt"];
     assert_eq!(rules::names_twice(&graph), expected);
-    let expected = ["crates/a/specs/One.antt: zero, crates/b/specs/Two.antt: free"];
+    let expected = [
+        "crates/a/specs/One.antt: zero, crates/b/specs/Two.antt: free",
+        "crates/a/specs/One.antt: lengthOf, crates/b/specs/Two.antt: gatesOf",
+    ];
     assert_eq!(rules::definitions_twice(&graph), expected);
 }
