@@ -53,7 +53,8 @@ enum zenkorv_fault {
  * Returns 0 and puts ending, fault and count (2 bytes, little-endian) into the first four bytes of the result; bytes past
  * the fourth stay. Or returns a refusal's number, and the result stays as it was.
  *
- * A slice is a pointer and a length. Neither pointer is null, even where the length is 0; the two slices do not overlap.
+ * A slice is a pointer and a length. C must keep what no proof can see: each pointer is valid for its length, neither is
+ * null, even where the length is 0, and the two slices do not overlap.
  */
 uint8_t zenkorv_entry(const uint8_t *image, size_t image_length, uint16_t limit, uint8_t *result, size_t result_length);
 
