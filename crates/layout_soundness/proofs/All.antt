@@ -2,34 +2,34 @@
 use Prim.Native.Nat.{ℕ, zero, suc, _+_, _-_, _<_, _≤_}
 use native.Mathlib.Omega.{arith}
 use native.Mathlib.Decide.{ℕ-discrete}
-use mathlib.Core.Path.{_≡_, refl, _∙_, ap, subst}
-use mathlib.Core.Bool.{Bool, true, false}
+use mathlib.Core.Path.{_≡_, refl, sym, _∙_, ap, subst}
+use mathlib.Core.Bool.{Bool, true, false, not, _&&_}
 use Rattle.layout_soundness.specs.SoundLayout.{allFrom}
-use Rattle.layout_soundness.proofs.Tests.{both, join}
+use Rattle.layout_soundness.proofs.Tests.{answered-true, answered-false, both, join}
 
--- a loop that has passed i numbers has the rest left to test
-abbrev pub Left : ℕ → (ℕ → Bool) → ℕ → Type 0
-Left n p i = allFrom n 0 p ≡ allFrom (n - i) i p
+-- a loop that has passed i of n numbers has the rest left to test
+pub record Left (n : ℕ) (p : ℕ → Bool) (i : ℕ) : Type 0 where
+  pub most : i ≤ n
+  pub rest : allFrom n 0 p ≡ allFrom (n - i) i p
 
 pub none : (n : ℕ) (p : ℕ → Bool) → Left n p 0
-none n p = ap (λ (k : ℕ). allFrom k 0 p) (omega arith)
+none n p = record { most = omega arith; rest = ap (λ (k : ℕ). allFrom k 0 p) (omega arith) }
 
-module _ (n : ℕ) (p : ℕ → Bool) (i : ℕ) (l : Left n p i) where
-  pub done : n ≤ i → allFrom n 0 p ≡ true
+-- the loop's turn answers r for number i: it ends at a test that fails, goes on at one that is passed, and ends after the last
+module _ {n : ℕ} {p : ℕ → Bool} {i : ℕ} (l : Left n p i) where
+  now : i < n → allFrom n 0 p ≡ (p i && allFrom (n - (i + 1)) (i + 1) p)
   unfolding allFrom
-  done h = l ∙ ap (λ (k : ℕ). allFrom k i p) (let z : n - i ≡ 0 = omega arith in z)
+  now h = l .rest ∙ ap (λ (k : ℕ). allFrom k i p) (let z : n - i ≡ suc (n - (i + 1)) = omega arith in z)
 
-  module _ (less : i < n) where
-    next : n - i ≡ suc (n - (i + 1))
-    next = omega arith
+  pub fails : {r : Bool} → i < n → r ≡ p i → not r ≡ true → false ≡ allFrom n 0 p
+  fails h e t = sym (now h ∙ simp (answered-false e t))
 
-    pub more : p i ≡ true → Left n p (i + 1)
-    unfolding allFrom
-    more t = l ∙ ap (λ (k : ℕ). allFrom k i p) next ∙ simp t
+  pub more : {r : Bool} → i < n → r ≡ p i → not r ≡ false → Left n p (i + 1)
+  more h e t = record { most = omega arith; rest = now h ∙ simp (answered-true e t) }
 
-    pub fails : p i ≡ false → allFrom n 0 p ≡ false
-    unfolding allFrom
-    fails t = l ∙ ap (λ (k : ℕ). allFrom k i p) next ∙ simp t
+  pub done : n ≤ i → true ≡ allFrom n 0 p
+  unfolding allFrom
+  done h = sym (l .rest ∙ ap (λ (k : ℕ). allFrom k i p) (let z : n - i ≡ 0 = omega arith in z))
 
 from : (n i : ℕ) (p : ℕ → Bool) → allFrom n i p ≡ true → (j : ℕ) → i ≤ j → j < i + n → p j ≡ true
 unfolding allFrom
