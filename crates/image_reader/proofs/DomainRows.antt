@@ -3,7 +3,7 @@ use Prim.Native.Nat.{ℕ, zero, suc, _+_, _-_, _*_, _<_, _≤_}
 use native.Mathlib.Omega.{arith}
 use mathlib.Core.Path.{_≡_, refl, sym, ap, _∙_}
 use mathlib.Core.List.{List, [], _∷_, _++_, append-assoc}
-use lib.ListN.{length, take, drop, set, replicate, length-append, length-map, length-drop, length-replicate, replicate-append-replicate}
+use lib.ListN.{length, take, drop, set, replicate, length-append, length-drop, length-replicate, replicate-append-replicate}
 use lib.Seq.{paste, take-at, drop-append-add, length-take-le}
 use Rattle.words.specs.Answer.{refuse, ok}
 use Rattle.image_format.specs.Bytes.{joined}
@@ -13,11 +13,11 @@ use Rattle.image_format.specs.Image.{padded, allRows}
 use Rattle.image_format.proofs.Answers.{bound}
 use Rattle.image_format.proofs.Chunks.{exact-room}
 use Rattle.image_format.proofs.Joined.{joined-snoc}
-use Rattle.image_format.proofs.Padded.{padded-set, padded-length, map-snoc}
-use Rattle.image_reader.proofs.Runs.{more, one, more-none, more-one, more-done}
+use Rattle.image_format.proofs.Padded.{padded-length, column-next}
+use Rattle.image_reader.proofs.Runs.{SoFar, so-far-none, so-far-done, so-far-refused, so-far-next}
 use Rattle.image_reader.specs.Private.{domainRows}
 
-pub domain-room : (segments : ℕ) (bytes : List ℕ) {d : Read Domain} → domainOf segments bytes ≡ ok d → 4 + (1 + segments) ≤ length bytes
+domain-room : (segments : ℕ) (bytes : List ℕ) {d : Read Domain} → domainOf segments bytes ≡ ok d → 4 + (1 + segments) ≤ length bytes
 unfolding domainOf
 domain-room segments bytes e = exact-room 3 (1 + segments) bytes (bound (chunkOf 3 (exactly (1 + segments)) bytes) (domainRead segments) e .is)
 
@@ -38,7 +38,7 @@ drop-zeros (suc n) zero h = absurd (omega arith)
 drop-zeros (suc n) (suc k) h = drop-zeros n k (omega arith) ∙ ap (λ (m : ℕ). zeros m) (let e : k - n ≡ suc k - suc n = omega arith in e)
 
 -- one row of 16 more
-pub padded-row : (xs ys row : List ℕ) (i n : ℕ) → length xs ≡ 16 * i → i < 8 → n ≤ 16 → take n ys ≡ row → length row ≡ n
+padded-row : (xs ys row : List ℕ) (i n : ℕ) → length xs ≡ 16 * i → i < 8 → n ≤ 16 → take n ys ≡ row → length row ≡ n
     → paste (padded 128 xs) (16 * i) ys n ≡ padded 128 (xs ++ padded 16 row)
 unfolding padded
 padded-row xs ys row i n e h l t w =
@@ -58,71 +58,46 @@ padded-row xs ys row i n e h l t w =
 
 pub record DomainsSoFar (image : List ℕ) (start count segments : ℕ) (ss rs : List ℕ) (at i : ℕ) : Type 0 where
   pub rows : List Domain
-  pub most : i ≤ count
-  pub counted : length rows ≡ i
-  pub left : domainsOf count segments (drop start image) ≡ more rows (domainsOf (count - i) segments (drop at image))
+  pub read : SoFar rows count i (domainsOf count segments (drop start image)) (λ n. domainsOf n segments (drop at image))
   pub stacks : ss ≡ padded 8 (stacksOf rows)
   pub rights : rs ≡ padded 128 (allRows rows)
   pub full : length (allRows rows) ≡ 16 * i
 
-pub domains-none : (image : List ℕ) (start count segments : ℕ) (ss rs : List ℕ) → ss ≡ padded 8 [] → rs ≡ padded 128 [] → DomainsSoFar image start count segments ss rs start 0
+pub domains-none : {image : List ℕ} {start count segments : ℕ} {ss rs : List ℕ} → ss ≡ padded 8 [] → rs ≡ padded 128 [] → DomainsSoFar image start count segments ss rs start 0
 unfolding joined
-domains-none image start count segments ss rs a b =
-    record {
-      rows = [];
-      most = omega arith;
-      counted = refl;
-      left = ap (λ (n : ℕ). domainsOf n segments (drop start image)) (let e : count ≡ count - 0 = omega arith in e) ∙ more-none _;
-      stacks = a;
-      rights = b;
-      full = refl;
-    }
+domains-none {image} {start} {count} {segments} a b =
+    record { rows = []; read = so-far-none count (λ n. domainsOf n segments (drop start image)); stacks = a; rights = b; full = refl }
 
-module _ (image : List ℕ) (start count segments : ℕ) (ss rs : List ℕ) (at i : ℕ) (f : DomainsSoFar image start count segments ss rs at i) where
-  pub domains-done : count ≤ i → domainRows (domainsOf count segments (drop start image)) ≡ ok (record { stacks = ss; rights = rs; rest = drop at image })
+module _ {image : List ℕ} {start count segments : ℕ} {ss rs : List ℕ} {at i : ℕ} (f : DomainsSoFar image start count segments ss rs at i) where
+  pub domains-done : count ≤ i → ok (record { stacks = ss; rights = rs; rest = drop at image }) ≡ domainRows (domainsOf count segments (drop start image))
   unfolding domainRows domainsOf
-  domains-done h =
-      let z : count - i ≡ 0 = omega (arith, f .most) in
-      let e = f .left ∙ ap (λ (n : ℕ). more (f .rows) (domainsOf n segments (drop at image))) z ∙ more-done (f .rows) (drop at image) in
-      ap domainRows e ∙ (λ j. ok (record { stacks = sym (f .stacks) j; rights = sym (f .rights) j; rest = drop at image }))
+  domains-done h = (λ j. ok (record { stacks = f .stacks j; rights = f .rights j; rest = drop at image })) ∙ sym (ap domainRows (so-far-done (f .read) (drop at image) h refl))
 
   module _ (less : i < count) where
-    next : count - i ≡ suc (count - (i + 1))
-    next = omega arith
-
-    pub domains-refused : (n : ℕ) → refuse n ≡ domainOf segments (drop at image) → domainRows (domainsOf count segments (drop start image)) ≡ refuse n
+    pub domains-refused : {n : ℕ} → refuse n ≡ domainOf segments (drop at image) → refuse n ≡ domainRows (domainsOf count segments (drop start image))
     unfolding domainRows domainsOf
-    domains-refused n e = rw (f .left, next, ← e)
+    domains-refused {n} e = sym (ap domainRows (so-far-refused (f .read) less n (rw (← e))))
 
-    module _ (few : count ≤ 8) (narrow : segments ≤ 16) (stack : ℕ) (e : ok (domainIn image at segments stack) ≡ domainOf segments (drop at image)) where
+    module _ (few : (count ≤ 8) × (segments ≤ 16)) {stack : ℕ} (e : ok (domainIn image at segments stack) ≡ domainOf segments (drop at image)) where
       pub domain-fits : at + 5 + segments ≤ length image
       domain-fits = omega (arith, domain-room segments (drop at image) (sym e), length-drop at image)
 
       abbrev d : Domain
       d = domainIn image at segments stack .value
 
-      first : domainsOf (count - i) segments (drop at image) ≡ one d (domainsOf (count - (i + 1)) segments (drop (at + 5 + segments) image))
-      unfolding domainsOf
-      first = rw (next, ← e)
-
       size : length (d .rights) ≡ segments
       size = length-take-le segments (drop (at + 5) image) (omega (arith, domain-fits, length-drop (at + 5) image))
 
       pub domains-next : DomainsSoFar image start count segments (set ss i stack) (paste rs (16 * i) (drop (at + 5) image) segments) (at + (5 + segments)) (i + 1)
+      unfolding domainsOf
       domains-next =
           record {
             rows = f .rows ++ (d ∷ []);
-            most = omega arith;
-            counted = length-append (f .rows) (d ∷ []) ∙ ap (λ (n : ℕ). n + 1) (f .counted);
-            left =
-                f .left ∙ ap (more (f .rows)) first ∙ more-one (f .rows) d (domainsOf (count - (i + 1)) segments (drop (at + 5 + segments) image)) ∙
-                ap (λ (k : ℕ). more (f .rows ++ (d ∷ [])) (domainsOf (count - (i + 1)) segments (drop k image))) (let k : at + 5 + segments ≡ at + (5 + segments) = omega arith in k);
-            stacks =
-                ap (λ (l : List ℕ). set l i stack) (f .stacks) ∙ padded-set 8 (stacksOf (f .rows)) i stack (length-map (f .rows) _ ∙ f .counted) (omega arith) ∙
-                ap (padded 8) (sym (map-snoc (λ d. d .stack) (f .rows) d));
+            read = so-far-next (f .read) less d (λ n. domainsOf n segments (drop (at + (5 + segments)) image)) (rw (← e, (let z : at + 5 + segments ≡ at + (5 + segments) = omega arith in z)));
+            stacks = column-next 8 (λ d. d .stack) (f .rows) d (f .stacks) (f .read .counted) (omega arith) refl;
             rights =
                 ap (λ (l : List ℕ). paste l (16 * i) (drop (at + 5) image) segments) (f .rights) ∙
-                padded-row (allRows (f .rows)) (drop (at + 5) image) (d .rights) i segments (f .full) (omega arith) narrow refl size ∙
+                padded-row (allRows (f .rows)) (drop (at + 5) image) (d .rights) i segments (f .full) (omega arith) (few .1) refl size ∙
                 ap (padded 128) (sym (joined-snoc rightsRow (f .rows) d));
             full =
                 ap length (joined-snoc rightsRow (f .rows) d) ∙ length-append (allRows (f .rows)) (padded 16 (d .rights)) ∙
