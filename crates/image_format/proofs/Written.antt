@@ -97,38 +97,44 @@ module _ (l m xs : List ℕ) (at : ℕ) (e : m ≡ written l at xs) where
   pub then-length : at + length xs ≤ length l → length m ≡ length l
   then-length h = ap length e ∙ written-length l at xs h
 
--- the first i rows, put from a place on
-pub record RowsPut {A : Type 0} (f : A → List ℕ) (row : ℕ → A) (l : List ℕ) (start : ℕ) (m : List ℕ) (at i : ℕ) : Type 0 where
+-- a loop that has put the first i of count rows from a place on
+pub record RowsPut {A : Type 0} (f : A → List ℕ) (row : ℕ → A) (l : List ℕ) (start count : ℕ) (m : List ℕ) (at i : ℕ) : Type 0 where
+  pub most : i ≤ count
+  pub fits : start + length (joined f (rowsFrom row 0 count)) ≤ length l
   pub at-is : at ≡ start + length (joined f (rowsFrom row 0 i))
   pub is : m ≡ written l start (joined f (rowsFrom row 0 i))
 
-pub put-none : {A : Type 0} (f : A → List ℕ) (row : ℕ → A) (l : List ℕ) (start : ℕ) → RowsPut f row l start l start 0
+pub put-none : {A : Type 0} {f : A → List ℕ} {row : ℕ → A} {l : List ℕ} {start count : ℕ} → start + length (joined f (rowsFrom row 0 count)) ≤ length l → RowsPut f row l start count l start 0
 unfolding joined rowsFrom
-put-none f row l start = record { at-is = omega arith; is = written-none l start }
+put-none {A} {f} {row} {l} {start} h = record { most = omega arith; fits = h; at-is = omega arith; is = written-none l start }
 
-module _ {A : Type 0} (f : A → List ℕ) (row : ℕ → A) (l : List ℕ) (start : ℕ) (m : List ℕ) (at i count : ℕ)
-    (p : RowsPut f row l start m at i) (room : start + length (joined f (rowsFrom row 0 count)) ≤ length l) where
-  pub put-length : i ≤ count → length m ≡ length l
-  put-length h = then-length l m (joined f (rowsFrom row 0 i)) start (p .is) (omega (arith, rows-most f row i count h))
+module _ {A : Type 0} {f : A → List ℕ} {row : ℕ → A} {l : List ℕ} {start count : ℕ} {m : List ℕ} {at i : ℕ} (p : RowsPut f row l start count m at i) where
+  abbrev so-far : List ℕ
+  so-far = joined f (rowsFrom row 0 i)
 
-  pub put-done : count ≤ i → i ≤ count → (at ≡ start + length (joined f (rowsFrom row 0 count))) × (m ≡ written l start (joined f (rowsFrom row 0 count)))
-  put-done h k =
-      let e : i ≡ count = omega arith in
+  pub put-length : length m ≡ length l
+  put-length = then-length l m so-far start (p .is) (omega (arith, p .fits, rows-most f row i count (p .most)))
+
+  pub put-done : count ≤ i → (at ≡ start + length (joined f (rowsFrom row 0 count))) × (m ≡ written l start (joined f (rowsFrom row 0 count)))
+  put-done h =
+      let e : i ≡ count = omega (arith, p .most) in
       (p .at-is ∙ ap (λ (n : ℕ). start + length (joined f (rowsFrom row 0 n))) e, p .is ∙ ap (λ (n : ℕ). written l start (joined f (rowsFrom row 0 n))) e)
 
   module _ (less : i < count) where
-    one : joined f (rowsFrom row 0 (i + 1)) ≡ joined f (rowsFrom row 0 i) ++ f (row i)
+    one : joined f (rowsFrom row 0 (i + 1)) ≡ so-far ++ f (row i)
     one = ap (joined f) (rows-next row i) ∙ joined-snoc f (rowsFrom row 0 i) (row i)
 
-    size : length (joined f (rowsFrom row 0 (i + 1))) ≡ length (joined f (rowsFrom row 0 i)) + length (f (row i))
-    size = ap length one ∙ length-append (joined f (rowsFrom row 0 i)) (f (row i))
+    size : length (joined f (rowsFrom row 0 (i + 1))) ≡ length so-far + length (f (row i))
+    size = ap length one ∙ length-append so-far (f (row i))
 
     pub put-room : at + length (f (row i)) ≤ length l
-    put-room = omega (arith, p .at-is, size, rows-most f row (i + 1) count (omega arith))
+    put-room = omega (arith, p .at-is, p .fits, size, rows-most f row (i + 1) count (omega arith))
 
-    pub put-next : {n : List ℕ} (k : ℕ) → n ≡ written m at (f (row i)) → k ≡ at + length (f (row i)) → RowsPut f row l start n k (i + 1)
-    put-next k g e =
+    pub put-next : {n : List ℕ} {k : ℕ} → n ≡ written m at (f (row i)) → k ≡ at + length (f (row i)) → RowsPut f row l start count n k (i + 1)
+    put-next g e =
         record {
+          most = omega arith;
+          fits = p .fits;
           at-is = omega (arith, p .at-is, size, e);
-          is = then-bytes l m (joined f (rowsFrom row 0 i)) start (p .is) (f (row i)) at g (omega (arith, p .at-is, put-room)) (p .at-is) ∙ ap (written l start) (sym one);
+          is = then-bytes l m so-far start (p .is) (f (row i)) at g (omega (arith, p .at-is, put-room)) (p .at-is) ∙ ap (written l start) (sym one);
         }
