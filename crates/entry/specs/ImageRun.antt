@@ -3,9 +3,8 @@ use Prim.Native.Nat.{ℕ}
 use mathlib.Core.List.{List}
 use lib.ListN.{replicate}
 use Rattle.words.specs.Answer.{Answer, refuse, ok, _>>=_}
-use Rattle.state.specs.declared.record.Layout.{Layout}
 use Rattle.state.specs.declared.record.Machine.{Machine}
-use Rattle.fresh.specs.Fresh.{freshOf}
+use Rattle.fresh.specs.Fresh.{freshOf, emptyLayout}
 use Rattle.runs.specs.declared.outcome.Outcome.{Outcome}
 use Rattle.runs.specs.Run.{Ending, refused, Ran, endAnswer}
 use Rattle.processor.specs.Calls.{runOf}
@@ -34,19 +33,6 @@ unfoldable pub imageRun : ℕ → List ℕ → Answer Final
 imageRun limit bytes = imageOf bytes >>= (λ i. ok (finalOf (machineRun limit i)))
 
 -- a record with nothing in it
-abbrev pub emptyLayout : Layout
-emptyLayout =
-    record {
-      lengths = replicate 16 0;
-      gates = replicate 16 0;
-      start = record { word = 0; segment = 0; domain = 0 };
-      gatedomains = replicate 16 0;
-      stacks = replicate 8 0;
-      rights = replicate 128 0;
-      segments = 0;
-      domains = 0;
-    }
-
 abbrev pub emptyMachine : Machine
 emptyMachine = freshOf emptyLayout
 

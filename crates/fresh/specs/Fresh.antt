@@ -1,4 +1,4 @@
--- A fresh machine of a layout.
+-- A fresh machine of a layout, and the layout with nothing in it.
 use mathlib.Core.Bool.{false}
 use lib.ListN.{getD, replicate, set}
 use Rattle.state.specs.declared.record.Layout.{Layout}
@@ -14,4 +14,18 @@ freshOf l =
       pointers = set (replicate 8 noPointer) 2 (record { word = 0; segment = getD (l .stacks) (l .start .domain) 0; tag = false });
       frames = replicate 8 freeFrame;
       depth = 0;
+    }
+
+-- a layout with nothing in it
+abbrev pub emptyLayout : Layout
+emptyLayout =
+    record {
+      lengths = replicate 16 0;
+      gates = replicate 16 0;
+      start = record { word = 0; segment = 0; domain = 0 };
+      gatedomains = replicate 16 0;
+      stacks = replicate 8 0;
+      rights = replicate 128 0;
+      segments = 0;
+      domains = 0;
     }

@@ -1,11 +1,12 @@
-// Fresh machines.
+// Fresh machines, and the layout with nothing in it.
 ghost use mathlib.Core.Path.{_≡_};
 ghost use lib.ListN.{getD};
-ghost use Rattle.fresh.specs.Fresh.{freshOf};
+ghost use Rattle.fresh.specs.Fresh.{freshOf, emptyLayout};
 use state::frames::free_frame;
 use state::record::Layout;
 use state::record::Machine;
 use state::record::Registers;
+use state::record::Start;
 use words::pointer::Pointer;
 
 // A domain's stack segment, and 0 where there is no such domain.
@@ -48,5 +49,25 @@ pub fn fresh(layout: Layout) -> Machine
         pointers,
         frames,
         depth: 0,
+    }
+}
+
+// The layout with nothing in it.
+pub fn empty_layout() -> Layout
+    ensures { λ r. ⌜ r ≡ emptyLayout ⌝ }
+{
+    Layout {
+        lengths: [0; 16],
+        gates: [0; 16],
+        start: Start {
+            word: 0,
+            segment: 0,
+            domain: 0,
+        },
+        gatedomains: [0; 16],
+        stacks: [0; 8],
+        rights: [0; 128],
+        segments: 0,
+        domains: 0,
     }
 }

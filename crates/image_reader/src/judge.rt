@@ -15,9 +15,9 @@ use crate::head::head_chunk;
 use crate::segment::Place;
 use crate::segment::Segments;
 use crate::segment::segment_chunks;
+use fresh::empty_layout;
 use image_format::Head;
 use state::record::Layout;
-use state::record::Start;
 
 // The layout of an image that is passed.
 pub struct Judged {
@@ -28,20 +28,7 @@ pub struct Judged {
 fn refused(n: u8) -> Judged
     ensures { λ r. ⌜ judgedAnswer r ≡ refuse n ⌝ }
 {
-    let layout = Layout {
-        lengths: [0; 16],
-        gates: [0; 16],
-        start: Start {
-            word: 0,
-            segment: 0,
-            domain: 0,
-        },
-        gatedomains: [0; 16],
-        stacks: [0; 8],
-        rights: [0; 128],
-        segments: 0,
-        domains: 0,
-    };
+    let layout = empty_layout();
     Judged {
         layout,
         verdict: Verdict::Refused(n),

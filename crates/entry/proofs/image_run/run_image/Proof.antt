@@ -8,8 +8,11 @@ use Rattle.entry.proofs.ImageRuns.{refused-run, passed-run}
 use Rattle.entry.proofs.image_run.run_image.Statement.{statement}
 use Rattle.entry.proofs.image_run.run_image.Tie as tie
 
-empty-requires : tie.Need-empty-requires
-empty-requires c κs = search needs
+empty-layout-requires : tie.Need-empty-layout-requires
+empty-layout-requires c κs = search needs
+
+fresh-requires : tie.Need-fresh-requires
+fresh-requires c κs = search needs
 
 slice-aggregate-read : tie.Need-slice-aggregate-read
 slice-aggregate-read c = search needs
@@ -18,9 +21,9 @@ read-requires : tie.Need-read-requires
 read-requires c κs = search needs
 
 -- what the read gave
-read-is : (c : tie.After-read) → let e = c .before .before in
-    c .read .result ≡ machineAfter emptyMachine (readImage (e .before .before .args .image .now) (replicate 8192 0))
-read-is c = rw (c .before .before .empty .ensures) at (c .read .ensures .0)
+read-is : (c : tie.After-read) → let f = c .before .before in
+    c .read .result ≡ machineAfter emptyMachine (readImage (f .before .before .before .args .image .now) (replicate 8192 0))
+read-is c = let f = c .before .before in rw (f .fresh .ensures, f .before .empty-layout .ensures) at (c .read .ensures .0)
 
 returns : tie.Need-returns
 returns c =
@@ -44,7 +47,8 @@ pub run-image-spec : {M : Type 1} → statement M
 run-image-spec =
     tie.close
     (tie.spec
-    empty-requires
+    empty-layout-requires
+    fresh-requires
     slice-aggregate-read
     read-requires
     returns
