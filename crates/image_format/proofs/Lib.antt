@@ -7,4 +7,5 @@ pub mod Bodies
 pub mod Segments
 pub mod Images
 pub mod Written
+pub mod Copied
 pub mod Sizes

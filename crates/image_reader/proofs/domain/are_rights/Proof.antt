@@ -21,23 +21,11 @@ loop-holds c = (search needs, refl)
 there : (s : tie.Start Inv-loop μ-loop) → s .args .n ≤ length (drop (s .args .at) (s .args .image .now))
 there s = omega (arith, length-drop (s .args .at) (s .args .image .now), s .pre)
 
-add-if1 : tie.Need-add-if1 Inv-loop μ-loop
-add-if1 c = search needs
-
-shared-slice-read-if1 : tie.Need-shared-slice-read-if1 Inv-loop μ-loop
-shared-slice-read-if1 c = search needs
-
 returns : tie.Need-returns Inv-loop μ-loop
 returns c =
     let l = c .before .before .before in
     let a = l .before .args in
     sym (one-fails (drop (a .at) (a .image .now)) (a .n) (l .loop .j) (there (l .before)) (l .loop .inv .1) (c .before .before .loop-test .taken) (rw (getD-drop (a .at) (a .image .now) (l .loop .j) 0) (c .if1 .taken)))
-
-add-j : tie.Need-add-j Inv-loop μ-loop
-add-j c = search needs
-
-loop-less : tie.Need-loop-less Inv-loop μ-loop
-loop-less c = search needs
 
 loop-again : tie.Need-loop-again Inv-loop μ-loop
 loop-again c =
@@ -58,10 +46,10 @@ are-rights-spec =
     Inv-loop
     μ-loop
     loop-holds
-    add-if1
-    shared-slice-read-if1
+    (λ c. search needs)  -- add-if1
+    (λ c. search needs)  -- shared-slice-read-if1
     returns
-    add-j
-    loop-less
+    (λ c. search needs)  -- add-j
+    (λ c. search needs)  -- loop-less
     loop-again
     returns-2)

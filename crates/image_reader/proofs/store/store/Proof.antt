@@ -13,23 +13,14 @@ Inv-loop image words₀ lengths count at₀ base₀ i₀ words at base i = Store
 abbrev μ-loop : tie.MeasureT-loop
 μ-loop image words₀ lengths count at₀ base₀ i₀ words at base i = count - i
 
-cast-count : tie.Need-cast-count Inv-loop μ-loop
-cast-count c = search needs
-
 loop-holds : tie.Need-loop-holds Inv-loop μ-loop
 loop-holds c =
     let s = c .before .before .before .before in
     let a = s .args in
     stored-none (a .image .now) (a .words .now) (a .layout) (s .pre .0) (s .pre .1)
 
-mul-narrow : tie.Need-mul-narrow Inv-loop μ-loop
-mul-narrow c = search needs
-
 array-read-narrow : tie.Need-array-read-narrow Inv-loop μ-loop
 array-read-narrow c = omega (arith, c .before .loop .inv .few)
-
-narrow-requires : tie.Need-narrow-requires Inv-loop μ-loop
-narrow-requires c κs = search needs
 
 -- the segment's words are in the image, and there is room for them
 place : (c : tie.After-narrow Inv-loop μ-loop) → let l = c .before .before in l .loop .at + 8 + 4 * c .narrow .result ≤ length (l .before .before .before .before .before .args .image .now)
@@ -59,12 +50,6 @@ add-at-2 c = let h = place (c .before .before .before .before) in search needs
 add-base : tie.Need-add-base Inv-loop μ-loop
 add-base c = let h = room (c .before .before .before .before) .0 in search needs
 
-add-i : tie.Need-add-i Inv-loop μ-loop
-add-i c = search needs
-
-loop-less : tie.Need-loop-less Inv-loop μ-loop
-loop-less c = search needs
-
 loop-again : tie.Need-loop-again Inv-loop μ-loop
 loop-again c =
     let w = c .before .before in
@@ -84,19 +69,19 @@ store-spec =
     (tie.spec
     Inv-loop
     μ-loop
-    cast-count
+    (λ c. search needs)  -- cast-count
     loop-holds
-    mul-narrow
+    (λ c. search needs)  -- mul-narrow
     array-read-narrow
-    narrow-requires
+    (λ c κs. search needs)  -- narrow-requires
     add-segment-words
     segment-words-requires
     mul-at
     add-at
     add-at-2
     add-base
-    add-i
-    loop-less
+    (λ c. search needs)  -- add-i
+    (λ c. search needs)  -- loop-less
     loop-again
     same-length
     returns)
