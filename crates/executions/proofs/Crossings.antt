@@ -49,7 +49,7 @@ gate-domain l s segment = by (ltb segment 16) refl
     by false e = omega (arith, s .some-domains)
 
 -- a return that passes its checks has a frame, and goes to a word that exists
-leave-facts : (lengths rights : List ℕ) (depth : ℕ) (f : Frame) (s p : Pointer) → leaveCheck lengths rights depth f s p ≡ 0 → (1 ≤ depth) × (exists lengths (p .segment) (p .word) ≡ true)
+pub leave-facts : (lengths rights : List ℕ) (depth : ℕ) (f : Frame) (s p : Pointer) → leaveCheck lengths rights depth f s p ≡ 0 → (1 ≤ depth) × (exists lengths (p .segment) (p .word) ≡ true)
 unfolding leaveCheck
 leave-facts lengths rights depth f s p e = by (leb 1 depth && same) refl e
   where

@@ -14,3 +14,4 @@ pub mod Fails
 pub mod CheckNumbers
 pub mod PlanNumbers
 pub mod Numbers
+pub mod Called

@@ -92,6 +92,9 @@ module _ (l : Layout) (words : List ℕ) (m : Machine) (now : List ℕ) (h : Cam
       said CameBy _ d
       (says-bind (ActSame m) CameBy (decide m (fetch m now) (readWord m now)) (commit m now) (decide-same m (fetch m now) (readWord m now)) commit-came) e
 
+pub step-length : (m : Machine) (words : List ℕ) (d : Done) → execute m words ≡ ok d → length (d .words) ≡ length words
+step-length m words d e = step-came (m .layout) words m words (record { layout = refl; room = refl; past = λ i l. refl }) d e .room
+
 run-came : (stretch : Bool) (k n : ℕ) (m : Machine) (words : List ℕ)
     → Came (m .layout) words (runFrom stretch k n m words .machine) (runFrom stretch k n m words .words)
 run-came stretch k n m words =

@@ -12,6 +12,7 @@ use Rattle.runs.specs.Step.{Done, execute}
 use Rattle.runs.specs.Run.{ran, spent, faulted, refused, runFrom, judged}
 use Rattle.processor.specs.Calls.{Step, stepCall, runCall, stretchCall}
 use Rattle.processor.specs.Steps.{afterStretch}
+use Rattle.executions.specs.Called.{stepsCalled}
 
 -- the numbers of faults
 abbrev pub Fault : ℕ → Type 0
@@ -32,6 +33,12 @@ RunSound = (m : Machine) (words : List ℕ) → SoundRecord m → (stretch : Boo
 -- a run is its first stretch, and a run from where that crossed
 abbrev pub RunStretches : Type 0
 RunStretches = (k n : ℕ) (m : Machine) (words : List ℕ) → runFrom false k n m words ≡ afterStretch (n + k) (runFrom true k n m words)
+
+-- calls of step on a sound record, with words enough, make its stretch
+abbrev pub StepsStretch : Type 0
+StepsStretch =
+    (k n : ℕ) (m : Machine) (words : List ℕ) → SoundRecord m → 8192 ≤ length words
+    → stepsCalled k n m words ≡ runFrom true k n m words
 
 -- the count grows by at most the limit
 abbrev pub CountMost : Type 0
