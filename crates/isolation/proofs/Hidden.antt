@@ -14,7 +14,7 @@ use Rattle.references.specs.declared.flag.Access.{Access}
 use Rattle.references.specs.declared.flag.Access.the-variants as access
 use Rattle.references.proofs.Passes.{never, static-exists, live-exists}
 use Rattle.references.proofs.Places.{index-apart}
-use Rattle.isolation.specs.Visible.{byStatic, byLive, maySee, existing, place, wordAt}
+use Rattle.isolation.specs.Visible.{byStatic, byLive, maySee, couldWrite, existing, place, wordAt}
 use Rattle.isolation.specs.Isolation.{Agree}
 use Rattle.isolation.proofs.Or.{either}
 
@@ -32,6 +32,11 @@ module _ (m : Machine) (s k : ℕ) where
   pub seen-there : maySee m s k ≡ true → existing m s k ≡ true
   unfolding maySee
   seen-there = either (byStatic m flag.Execute s k) _ (static-there flag.Execute) read-there
+
+  -- and so does one that it could write
+  pub written-there : couldWrite m s k ≡ true → existing m s k ≡ true
+  unfolding couldWrite
+  written-there = either (byStatic m flag.Write s k) (byLive m access.Write s k) (static-there flag.Write) (live-there access.Write)
 
 -- by any test that only existing words pass: another number in an existing word that does not pass it leaves all that do
 pub differs : (see : ℕ → ℕ → Bool) (m : Machine) → ((s k : ℕ) → see s k ≡ true → existing m s k ≡ true)

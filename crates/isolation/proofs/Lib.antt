@@ -1,11 +1,13 @@
 pub mod Or
 pub mod Sees
-pub mod Stretch
-pub mod Store
-pub mod Theorem
 pub mod Hidden
+pub mod Stored
+pub mod Stretch
+pub mod Twins
+pub mod Alike
+pub mod Theorem
 pub mod ReadOnly
 pub mod Corollaries
+pub mod Main
 pub mod Worked
 pub mod Counterexamples
-pub mod Main

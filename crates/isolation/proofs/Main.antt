@@ -1,7 +1,48 @@
--- The isolation theorem, over the whole stretch, at the processor's own definition.
+-- The isolation theorem, over the whole stretch, at the processor's own definition; then at the calls of stretch and of step.
+use Prim.Native.Nat.{ℕ, _≤_}
+use native.Mathlib.Omega.{arith}
+use mathlib.Core.Bool.{Bool, true, false}
+use mathlib.Core.List.{List}
+use mathlib.Core.Path.{_≡_, refl}
+use borrow.Author.Tests.{leb-true}
+use lib.Dec.{leb}
+use lib.ListN.{length}
+use Rattle.words.specs.Answer.{if_then_else_}
+use Rattle.state.specs.declared.record.Machine.{Machine}
+use Rattle.soundness.specs.Sound.{soundTest}
 use Rattle.soundness.proofs.Facts.{sound-facts}
+use Rattle.runs.specs.Run.{runFrom, judged, calledOf}
+use Rattle.runs.proofs.Judging.{judged-sound}
+use Rattle.processor.specs.Calls.{stretchCall}
+use Rattle.executions.specs.Called.{stepsCalled}
+use Rattle.executions.proofs.Called.{steps-stretch}
 use Rattle.isolation.proofs.Theorem.{isolation-fits}
-use Rattle.isolation.specs.Statements.{Isolation}
+use Rattle.isolation.specs.Statements.{Isolation, CallIsolation, StepsIsolation}
 
 pub isolation : Isolation
 isolation m sound limit w v hw hv agree = isolation-fits m limit w v (sound-facts m sound .layout .words) hw hv agree
+
+-- a call that is not refused has 8,192 words
+judged-long : (m : Machine) (words : List ℕ) → judged m words ≡ 0 → 8192 ≤ length words
+unfolding judged
+judged-long m words e = leb-true _ _ (by (soundTest m) (leb 8192 (length words)) e)
+  where
+    by : (sound long : Bool) → _≡_ {A = ℕ} (if sound then (if long then 0 else 7) else 9) 0 → long ≡ true
+    by sound true h = refl
+    by true false h = absurd (omega (arith, h))
+    by false false h = absurd (omega (arith, h))
+
+pub call-isolation : CallIsolation
+unfolding stretchCall calledOf
+call-isolation m limit w v hw hv agree =
+    rw (hw, hv) (isolation m (judged-sound m w hw) limit w v (judged-long m w hw) (judged-long m v hv) agree)
+
+pub steps-isolation : StepsIsolation
+steps-isolation m limit w v room hw hv agree =
+    rw (steps w hw, steps v hv) (isolation m sound limit w v (judged-long m w hw) (judged-long m v hv) agree)
+  where
+    sound : soundTest m ≡ true
+    sound = judged-sound m w hw
+
+    steps : (u : List ℕ) → judged m u ≡ 0 → stepsCalled limit 0 m u ≡ runFrom true limit 0 m u
+    steps u h = steps-stretch limit 0 m u (sound, room) (judged-long m u h)

@@ -10,7 +10,6 @@ use Rattle.words.specs.Numbers.{noMatch, noWord, flagMissing}
 use Rattle.state.specs.declared.record.Capability.{Capability}
 use Rattle.state.specs.declared.record.Machine.{Machine}
 use Rattle.state.specs.Record.{noCapability, inUse}
-use Rattle.references.specs.declared.flag.Flag.the-variants as flag
 use Rattle.references.specs.declared.flag.Access.the-variants as access
 use Rattle.references.specs.Static.{exists, staticOf}
 use Rattle.capabilities.specs.Search.{coversOf, firstOf}

@@ -4,7 +4,6 @@ use native.Mathlib.Omega.{arith}
 use mathlib.Core.Bool.{Bool, true, false, _||_, or-true}
 use mathlib.Core.List.{List}
 use mathlib.Core.Path.{_≡_, refl, ap, fun-ext}
-use borrow.Author.Tests.{eqb-true}
 use lib.Dec.{eqb}
 use lib.ListN.{getD}
 use Rattle.words.specs.Answer.{refuse, ok, _>>=_, if_then_else_}
@@ -18,9 +17,8 @@ use Rattle.references.specs.Flag.{flagOf}
 use Rattle.references.specs.Static.{staticOf}
 use Rattle.references.specs.Reference.{accept, verdictOf, referenceOf, locateOf}
 use Rattle.references.specs.Check.{check}
-use Rattle.references.proofs.Passes.{verdict-exists}
 use Rattle.memory.specs.Reader.{readWord, readOf, fetch, fetchOf}
-use Rattle.isolation.specs.Visible.{byStatic, byLive, maySee, couldWrite, existing, place}
+use Rattle.isolation.specs.Visible.{byStatic, byLive, maySee, couldWrite, place}
 use Rattle.isolation.specs.Isolation.{Agree}
 use Rattle.isolation.proofs.Or.{or-left, or-right}
 
@@ -69,21 +67,13 @@ module _ (m : Machine) (w v : List ℕ) (h : Agree m w v) where
       let k = m .registers .word in
       looks (staticOf (m .layout .lengths) (m .layout .rights) (m .registers .domain) flag.Execute s k) s k (executes m s k)
 
--- a reference that passes its check for W: at index i, to a word that exists and could be written
-pub record Target (m : Machine) (p : Pointer) (i : ℕ) : Type 0 where
-  pub at : i ≡ place m (p .segment) (p .word)
-  pub exists : existing m (p .segment) (p .word) ≡ true
-  pub writable : couldWrite m (p .segment) (p .word) ≡ true
-
-pub target : (m : Machine) (p : Pointer) (i : ℕ) → check m access.Write p ≡ ok i → Target m p i
+-- a reference that passes its check for W: it gives the index of its word, and the domain could write that word
+pub target : (m : Machine) (p : Pointer) (i : ℕ) → check m access.Write p ≡ ok i → (i ≡ place m (p .segment) (p .word)) × (couldWrite m (p .segment) (p .word) ≡ true)
 unfolding check referenceOf couldWrite
 target m p i e = by (eqb (verdict m access.Write p) 0) refl e
   where
     by : (t : Bool) → eqb (verdict m access.Write p) 0 ≡ t
-        → (if t then ok (place m (p .segment) (p .word)) else refuse (verdict m access.Write p)) ≡ ok i → Target m p i
-    by true q e = record {
-      at = cc;
-      exists = verdict-exists _ _ _ _ _ access.Write p (eqb-true _ _ q);
-      writable = passes m access.Write p q;
-    }
+        → (if t then ok (place m (p .segment) (p .word)) else refuse (verdict m access.Write p)) ≡ ok i
+        → (i ≡ place m (p .segment) (p .word)) × (couldWrite m (p .segment) (p .word) ≡ true)
+    by true q e = (cc, passes m access.Write p q)
     by false q e = absurd (let z : _≡_ {A = ℕ} 0 1 = cc in omega arith)

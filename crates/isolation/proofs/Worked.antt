@@ -13,7 +13,9 @@ use Rattle.words.specs.InstructionWord.{instructionOf}
 use Rattle.words.specs.ModeWord.{modeOf}
 use Rattle.state.specs.declared.record.Machine.{Machine}
 use Rattle.state.specs.Record.{noPointer, noCapability, freeFrame}
-use Rattle.state.specs.Bases.{baseOf, basesOf, wordsIn}
+use Rattle.state.specs.Bases.{baseOf, basesOf}
+use Rattle.layout_soundness.specs.SoundLayout.{allFrom, segmentTest, stackTest, rightsTest, startTest, layoutTest}
+use Rattle.soundness.specs.Sound.{registersTest, pointerTest, pointersTest, capabilityTest, emptyCapability, emptyPointer, emptyFrame, frameTest, framesTest, soundTest}
 use Rattle.references.specs.declared.flag.Flag.the-variants as flag
 use Rattle.references.specs.declared.flag.Access.the-variants as access
 use Rattle.references.specs.Flag.{has}
@@ -32,9 +34,10 @@ use Rattle.runs.specs.Step.{decide, commit, execute}
 use Rattle.runs.specs.Run.{ran, crossed, runFrom}
 use Rattle.processor.specs.Calls.{stretchOf}
 use Rattle.isolation.specs.Visible.{byStatic, byLive, maySee, couldWrite, existing, place, wordAt}
+use Rattle.isolation.specs.Stores.{storesOf}
 use Rattle.isolation.specs.Isolation.{Agree, Isolated}
 use Rattle.isolation.proofs.Hidden.{hidden-agrees}
-use Rattle.isolation.proofs.Theorem.{isolation-fits}
+use Rattle.isolation.proofs.Main.{isolation}
 
 -- a row of n numbers that begins as given and goes on with zeros
 abbrev row : ℕ → List ℕ → List ℕ
@@ -95,6 +98,8 @@ pub record Computed (hidden : ℕ) (rest : List ℕ) : Type 0 where
   -- four instructions, a store in word 6 of segment 1, and a crossing
   pub five : stretchOf 100 start (memory 5 hidden rest) ≡ ran (called 5) (set (memory 5 hidden rest) (place start 1 6) 5) 4 crossed
   pub six : stretchOf 100 start (memory 6 hidden rest) ≡ ran (called 6) (set (memory 6 hidden rest) (place start 1 6) 6) 4 crossed
+  -- the one number that a word receives
+  pub stores : storesOf 100 start (memory 5 hidden rest) ≡ record { segment = 1; word = 6; value = 5 } ∷ []
   -- then domain 1 gets its argument through the live frame
   pub loads : (n : ℕ) → stretchOf 1 (called 5) (set (memory 5 hidden rest) (place start 1 6) n) .machine .registers .a ≡ n
   -- domain 0 may not see word 0 of segment 3; it may execute word 0 of segment 0 and not read it
@@ -106,10 +111,11 @@ pub record Computed (hidden : ℕ) (rest : List ℕ) : Type 0 where
   pub written : wordAt start (set (memory 5 hidden rest) (place start 1 6) 5) 1 6 ≡ 5
 
 pub computed : (hidden : ℕ) (rest : List ℕ) → Computed hidden rest
-unfolding field common signedOf displacedOf literalOf pointerOf instructionOf modeOf baseOf basesOf has exists rightsOf staticOf coversOf firstOf liveMatch liveOf verdictOf locateOf referenceOf check readOf fetchOf readWord fetch displacedBy throughOf effectiveOf jumpCheck callWay loadOf branchOf callOf isLoad isStore valueOf takenOf effectOf executeOf planOf jumpOf returnOf listWord listPointer sourceOf capabilityOf argumentOf argumentsFrom frameAfter frameOf entered enterOf decide commit execute runFrom maySee couldWrite start memory called
+unfolding field common signedOf displacedOf literalOf pointerOf instructionOf modeOf baseOf basesOf has exists rightsOf staticOf coversOf firstOf liveMatch liveOf verdictOf locateOf referenceOf check readOf fetchOf readWord fetch displacedBy throughOf effectiveOf jumpCheck callWay loadOf branchOf callOf isLoad isStore valueOf takenOf effectOf executeOf planOf jumpOf returnOf listWord listPointer sourceOf capabilityOf argumentOf argumentsFrom frameAfter frameOf entered enterOf decide commit execute runFrom storesOf maySee couldWrite start memory called
 computed hidden rest = record {
   five = refl;
   six = refl;
+  stores = refl;
   loads = λ n. refl;
   secret = (refl, refl);
   code = (refl, refl);
@@ -118,16 +124,20 @@ computed hidden rest = record {
   written = refl;
 }
 
--- the words of a machine fit, and a memory whose rest is long enough has 8,192 words
-pub few : wordsIn (start .layout .lengths) ≤ 8192
-unfolding start baseOf
-few = omega arith
+-- both machines are sound
+pub start-sound : soundTest start ≡ true
+unfolding start baseOf allFrom segmentTest stackTest rightsTest startTest layoutTest registersTest pointerTest pointersTest capabilityTest emptyCapability emptyPointer emptyFrame frameTest framesTest soundTest
+start-sound = refl
 
+pub called-sound : soundTest (called 5) ≡ true
+unfolding start called baseOf allFrom segmentTest stackTest rightsTest startTest layoutTest registersTest pointerTest pointersTest capabilityTest emptyCapability emptyPointer emptyFrame frameTest framesTest soundTest
+called-sound = refl
+
+-- a memory whose rest is long enough has 8,192 words; such a rest, of zeros
 pub fits : (n hidden : ℕ) (rest : List ℕ) → 8173 ≤ length rest → 8192 ≤ length (memory n hidden rest)
 unfolding memory
 fits n hidden rest long = omega arith
 
--- such a rest, of zeros
 pub zeros : List ℕ
 zeros = replicate 8173 0
 
@@ -135,10 +145,11 @@ pub enough : 8173 ≤ length zeros
 unfolding zeros
 enough = le-of-eq (sym (length-replicate {A = ℕ} 8173 0))
 
--- the two memories agree, and the claim holds of them; the two stretches are those of `five`
+-- the two memories agree, and the theorem holds of them; the two stretches are those of `five`
 pub agrees : (rest : List ℕ) → Agree start (memory 5 7 rest) (memory 5 9 rest)
 unfolding start memory basesOf baseOf
 agrees rest = let c = computed 7 rest .secret in hidden-agrees start (memory 5 7 rest) 3 0 9 (c .0) (c .1)
 
 pub pair : Isolated start (memory 5 7 zeros) (memory 5 9 zeros) (stretchOf 100 start (memory 5 7 zeros)) (stretchOf 100 start (memory 5 9 zeros))
-pair = isolation-fits start 100 (memory 5 7 zeros) (memory 5 9 zeros) few (fits 5 7 zeros enough) (fits 5 9 zeros enough) (agrees zeros)
+    (storesOf 100 start (memory 5 7 zeros)) (storesOf 100 start (memory 5 9 zeros))
+pair = isolation start start-sound 100 (memory 5 7 zeros) (memory 5 9 zeros) (fits 5 7 zeros enough) (fits 5 9 zeros enough) (agrees zeros)

@@ -1,3 +1,4 @@
 pub mod Visible
+pub mod Stores
 pub mod Isolation
 pub mod Statements

@@ -11,17 +11,32 @@ use Rattle.soundness.specs.Sound.{soundTest}
 use Rattle.references.specs.declared.flag.Flag.the-variants as flag
 use Rattle.references.specs.Flag.{has}
 use Rattle.references.specs.Static.{rightsOf}
-use Rattle.runs.specs.Run.{crossed}
-use Rattle.processor.specs.Calls.{runOf, stretchOf}
+use Rattle.runs.specs.Run.{crossed, judged}
+use Rattle.processor.specs.Calls.{runOf, stretchOf, stretchCall}
+use Rattle.executions.specs.Called.{stepsCalled}
 use Rattle.isolation.specs.Visible.{maySee, couldWrite, existing, place}
+use Rattle.isolation.specs.Stores.{storesOf}
 use Rattle.isolation.specs.Isolation.{Agree, Unchanged, Isolated}
 
 -- THE ISOLATION THEOREM. Two machines with the same sound record, whose memories agree on every word that the executing domain
--- may see, run with the same limit up to and with the first completed crossing: they end equally.
+-- may see, run with the same limit up to and with the first completed crossing: they end equally, and made the same stores.
 abbrev pub Isolation : Type 0
 Isolation =
     (m : Machine) → soundTest m ≡ true → (limit : ℕ) (w v : List ℕ) → 8192 ≤ length w → 8192 ≤ length v
-    → Agree m w v → Isolated m w v (stretchOf limit m w) (stretchOf limit m v)
+    → Agree m w v → Isolated m w v (stretchOf limit m w) (stretchOf limit m v) (storesOf limit m w) (storesOf limit m v)
+
+-- the same of the call of a stretch, for any record over any two memories with which it is not refused
+abbrev pub CallIsolation : Type 0
+CallIsolation =
+    (m : Machine) (limit : ℕ) (w v : List ℕ) → judged m w ≡ 0 → judged m v ≡ 0
+    → Agree m w v → Isolated m w v (stretchCall limit m w) (stretchCall limit m v) (storesOf limit m w) (storesOf limit m v)
+
+-- and of calls of step, each on what the one before left, up to the first that changes the number of frames in use;
+-- the record's list of frames is as long as the array
+abbrev pub StepsIsolation : Type 0
+StepsIsolation =
+    (m : Machine) (limit : ℕ) (w v : List ℕ) → length (m .frames) ≡ 8 → judged m w ≡ 0 → judged m v ≡ 0
+    → Agree m w v → Isolated m w v (stepsCalled limit 0 m w) (stepsCalled limit 0 m v) (storesOf limit m w) (storesOf limit m v)
 
 -- another number in a word that the domain may not see is never noticed
 abbrev pub Secrecy : Type 0
@@ -29,13 +44,14 @@ Secrecy =
     (m : Machine) (limit : ℕ) (w : List ℕ) → wordsIn (m .layout .lengths) ≤ 8192 → 8192 ≤ length w
     → (s k x : ℕ) → existing m s k ≡ true → maySee m s k ≡ false
     → Isolated m w (set w (place m s k) x) (stretchOf limit m w) (stretchOf limit m (set w (place m s k) x))
+    (storesOf limit m w) (storesOf limit m (set w (place m s k) x))
 
 -- the same holds for runs in which no crossing completes
 abbrev pub RunIsolation : Type 0
 RunIsolation =
     (m : Machine) (limit : ℕ) (w : List ℕ) → wordsIn (m .layout .lengths) ≤ 8192 → 8192 ≤ length w
     → (v : List ℕ) → 8192 ≤ length v → Agree m w v → (stretchOf limit m w .ending ≡ crossed → ⊥)
-    → Isolated m w v (runOf limit m w) (runOf limit m v)
+    → Isolated m w v (runOf limit m w) (runOf limit m v) (storesOf limit m w) (storesOf limit m v)
 
 -- a word that the domain could not write is unchanged
 abbrev pub Integrity : Type 0
