@@ -11,11 +11,13 @@ use Rattle.words.specs.Answer.{if_then_else_}
 use Rattle.state.specs.declared.record.Machine.{Machine}
 use Rattle.soundness.specs.Sound.{soundTest}
 use Rattle.soundness.proofs.Facts.{sound-facts}
-use Rattle.runs.specs.Run.{runFrom, judged, calledOf}
+use Rattle.runs.specs.Run.{judged, calledOf}
 use Rattle.runs.proofs.Judging.{judged-sound}
-use Rattle.processor.specs.Calls.{stretchCall}
+use Rattle.processor.specs.Calls.{stretchOf, stretchCall}
 use Rattle.executions.specs.Called.{stepsCalled}
 use Rattle.executions.proofs.Called.{steps-stretch}
+use Rattle.isolation.specs.Stores.{storesOf}
+use Rattle.isolation.specs.Isolation.{Agree, Isolated}
 use Rattle.isolation.proofs.Theorem.{isolation-fits}
 use Rattle.isolation.specs.Statements.{Isolation, CallIsolation, StepsIsolation}
 
@@ -32,17 +34,21 @@ judged-long m words e = leb-true _ _ (by (soundTest m) (leb 8192 (length words))
     by true false h = absurd (omega (arith, h))
     by false false h = absurd (omega (arith, h))
 
-pub call-isolation : CallIsolation
+-- it is the stretch, and so are calls of step
+called : (limit : ℕ) (m : Machine) (words : List ℕ) → judged m words ≡ 0 → stretchCall limit m words ≡ stretchOf limit m words
 unfolding stretchCall calledOf
-call-isolation m limit w v hw hv agree =
-    rw (hw, hv) (isolation m (judged-sound m w hw) limit w v (judged-long m w hw) (judged-long m v hv) agree)
+called limit m words e = rw e refl
+
+steps : (limit : ℕ) (m : Machine) (words : List ℕ) → length (m .frames) ≡ 8 → judged m words ≡ 0 → stepsCalled limit 0 m words ≡ stretchOf limit m words
+steps limit m words room e = steps-stretch limit 0 m words (judged-sound m words e, room) (judged-long m words e)
+
+-- the theorem, where neither memory is refused
+accepted : (m : Machine) (limit : ℕ) (w v : List ℕ) → judged m w ≡ 0 → judged m v ≡ 0
+    → Agree m w v → Isolated m w v (stretchOf limit m w) (stretchOf limit m v) (storesOf limit m w) (storesOf limit m v)
+accepted m limit w v hw hv = isolation m (judged-sound m w hw) limit w v (judged-long m w hw) (judged-long m v hv)
+
+pub call-isolation : CallIsolation
+call-isolation m limit w v hw hv agree = rw (called limit m w hw, called limit m v hv) (accepted m limit w v hw hv agree)
 
 pub steps-isolation : StepsIsolation
-steps-isolation m limit w v room hw hv agree =
-    rw (steps w hw, steps v hv) (isolation m sound limit w v (judged-long m w hw) (judged-long m v hv) agree)
-  where
-    sound : soundTest m ≡ true
-    sound = judged-sound m w hw
-
-    steps : (u : List ℕ) → judged m u ≡ 0 → stepsCalled limit 0 m u ≡ runFrom true limit 0 m u
-    steps u h = steps-stretch limit 0 m u (sound, room) (judged-long m u h)
+steps-isolation m limit w v room hw hv agree = rw (steps limit m w room hw, steps limit m v room hv) (accepted m limit w v hw hv agree)
