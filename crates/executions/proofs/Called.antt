@@ -15,13 +15,13 @@ use Rattle.soundness.specs.Sound.{soundTest}
 use Rattle.references.specs.declared.flag.Access.the-variants as access
 use Rattle.references.specs.Check.{check}
 use Rattle.memory.specs.Reader.{Reader, readWord, fetch}
-use Rattle.instructions.specs.Plan.{Plan, halt, move, store, enter, leave}
 use Rattle.crossings.specs.Crossing.{enterOf, leaveOf, entered, left}
-use Rattle.runs.specs.Step.{Act, stop, proceed, put, cross, Completion, stopped, proceeded, crossing, Done, done, resolve, decide, commit, execute}
+use Rattle.runs.specs.Step.{Act, stop, proceed, put, cross, Completion, stopped, proceeded, crossing, Done, done, decide, commit, execute}
 use Rattle.runs.specs.Run.{after, afterCompletion, runFrom, judged}
 use Rattle.processor.specs.Calls.{stepped, stepCall}
-use Rattle.executions.proofs.Parts.{live, planned, frameFor, leaveNumber}
+use Rattle.executions.proofs.Parts.{live, frameFor, leaveNumber}
 use Rattle.executions.proofs.Says.{Says, said, says-bind, says-then, says-accept}
+use Rattle.executions.proofs.Acts.{CrossesTo, decide-crosses}
 use Rattle.executions.proofs.Crossings.{leave-facts}
 use Rattle.executions.proofs.Sound.{step-sound}
 use Rattle.executions.proofs.Words.{step-length}
@@ -49,23 +49,6 @@ module _ (m : Machine) where
   unfolding leaveOf left
   leave-differs p = says-accept Differs (leaveNumber m p) (left m p (live m)) (λ z e. omega (arith, some-frame p z, e))
 
-  abbrev ActDepth : Act → Type 0
-  ActDepth stop = Unit {0}
-  ActDepth (proceed a s w ps) = Unit {0}
-  ActDepth (put p v) = Unit {0}
-  ActDepth (cross n) = Differs n
-
-  resolve-depth : (read : Reader) (plan : Plan) → Says ActDepth (resolve m read plan)
-  resolve-depth read halt = tt
-  resolve-depth read (move a s w ps) = tt
-  resolve-depth read (store p v) = tt
-  resolve-depth read (enter p) = says-bind Differs ActDepth (enterOf m read p) (λ n. ok (cross n)) (enter-differs read p) (λ n h. h)
-  resolve-depth read (leave p) = says-bind Differs ActDepth (leaveOf m p) (λ n. ok (cross n)) (leave-differs p) (λ n h. h)
-
-  decide-depth : (fetched : Answer ℕ) (read : Reader) → Says ActDepth (decide m fetched read)
-  unfolding decide
-  decide-depth fetched read = says-then ActDepth (planned m fetched read) (resolve m read) (resolve-depth read)
-
   abbrev Told : Completion → Machine → Type 0
   Told stopped n = Unit {0}
   Told proceeded n = n .depth ≡ m .depth
@@ -74,7 +57,7 @@ module _ (m : Machine) where
   abbrev ToldBy : Done → Type 0
   ToldBy d = Told (d .completion) (d .machine)
 
-  commit-depth : (words : List ℕ) (a : Act) → ActDepth a → Says ToldBy (commit m words a)
+  commit-depth : (words : List ℕ) (a : Act) → CrossesTo Differs a → Says ToldBy (commit m words a)
   unfolding commit
   commit-depth words stop h = tt
   commit-depth words (proceed a s w ps) h = refl
@@ -84,7 +67,9 @@ module _ (m : Machine) where
   step-depth : (words : List ℕ) (d : Done) → execute m words ≡ ok d → ToldBy d
   unfolding execute
   step-depth words d e =
-      said ToldBy _ d (says-bind ActDepth ToldBy (decide m (fetch m words) (readWord m words)) (commit m words) (decide-depth (fetch m words) (readWord m words)) (commit-depth words)) e
+      said ToldBy _ d
+      (says-bind (CrossesTo Differs) ToldBy (decide m (fetch m words) (readWord m words)) (commit m words)
+      (decide-crosses m Differs enter-differs leave-differs (fetch m words) (readWord m words)) (commit-depth words)) e
 
 -- a call that is not refused
 call-accepted : (m : Machine) (words : List ℕ) → soundTest m ≡ true → 8192 ≤ length words → stepCall m words ≡ stepped m words (execute m words)

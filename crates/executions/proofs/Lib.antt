@@ -3,6 +3,7 @@ pub mod Faults
 pub mod Runs
 pub mod Says
 pub mod Parts
+pub mod Acts
 pub mod Words
 pub mod Pointers
 pub mod Plans

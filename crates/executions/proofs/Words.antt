@@ -6,7 +6,7 @@ use mathlib.Core.List.{List}
 use mathlib.Core.Path.{_≡_, refl, ap, _∙_}
 use lib.ListN.{length, getD, set, length-set}
 use lib.Seq.{getD-set-other}
-use Rattle.words.specs.Answer.{Answer, ok}
+use Rattle.words.specs.Answer.{ok}
 use Rattle.words.specs.declared.pointer.Pointer.{Pointer}
 use Rattle.state.specs.declared.record.Layout.{Layout}
 use Rattle.state.specs.declared.record.Machine.{Machine}
@@ -15,12 +15,12 @@ use Rattle.references.specs.declared.flag.Access.the-variants as access
 use Rattle.references.specs.Check.{check}
 use Rattle.references.proofs.Places.{check-lt}
 use Rattle.memory.specs.Reader.{Reader, readWord, fetch}
-use Rattle.instructions.specs.Plan.{Plan, halt, move, store, enter, leave}
 use Rattle.crossings.specs.Crossing.{enterOf, leaveOf, entered, left}
-use Rattle.runs.specs.Step.{Act, stop, proceed, put, cross, Done, resolve, decide, commit, execute}
+use Rattle.runs.specs.Step.{Act, stop, proceed, put, cross, Done, decide, commit, execute}
 use Rattle.runs.specs.Run.{runFrom}
-use Rattle.executions.proofs.Parts.{live, planned, frameFor, leaveNumber}
+use Rattle.executions.proofs.Parts.{live, frameFor, leaveNumber}
 use Rattle.executions.proofs.Says.{Says, itself, said, says-bind, says-then, says-accept}
+use Rattle.executions.proofs.Acts.{CrossesTo, decide-crosses}
 use Rattle.executions.proofs.Runs.{run-keeps}
 use Rattle.executions.specs.Statements.{RunLayout, RunLength, RunPast}
 
@@ -43,23 +43,6 @@ module _ (m : Machine) where
   unfolding leaveOf left
   leave-same p = says-accept Same (leaveNumber m p) (left m p (live m)) (λ _. refl)
 
-  abbrev ActSame : Act → Type 0
-  ActSame stop = Unit {0}
-  ActSame (proceed a s w ps) = Unit {0}
-  ActSame (put p v) = Unit {0}
-  ActSame (cross n) = Same n
-
-  resolve-same : (read : Reader) (plan : Plan) → Says ActSame (resolve m read plan)
-  resolve-same read halt = tt
-  resolve-same read (move a s w ps) = tt
-  resolve-same read (store p v) = tt
-  resolve-same read (enter p) = says-bind Same ActSame (enterOf m read p) (λ n. ok (cross n)) (enter-same read p) (λ n h. h)
-  resolve-same read (leave p) = says-bind Same ActSame (leaveOf m p) (λ n. ok (cross n)) (leave-same p) (λ n h. h)
-
-  decide-same : (fetched : Answer ℕ) (read : Reader) → Says ActSame (decide m fetched read)
-  unfolding decide
-  decide-same fetched read = says-then ActSame (planned m fetched read) (resolve m read) (resolve-same read)
-
 -- a step from a record and words that came of a start
 module _ (l : Layout) (words : List ℕ) (m : Machine) (now : List ℕ) (h : Came l words m now) where
   abbrev CameBy : Done → Type 0
@@ -77,7 +60,7 @@ module _ (l : Layout) (words : List ℕ) (m : Machine) (now : List ℕ) (h : Cam
           let z : wordsIn (m .layout .lengths) ≡ wordsIn (l .lengths) = ap (λ (x : Layout). wordsIn (x .lengths)) (h .layout) in
           omega (arith, check-lt m access.Write p i e)
 
-  commit-came : (a : Act) → ActSame m a → Says CameBy (commit m now a)
+  commit-came : (a : Act) → CrossesTo (Same m) a → Says CameBy (commit m now a)
   unfolding commit
   commit-came stop s = h
   commit-came (proceed a s w ps) _ = record { layout = h .layout; room = h .room; past = h .past }
@@ -90,7 +73,8 @@ module _ (l : Layout) (words : List ℕ) (m : Machine) (now : List ℕ) (h : Cam
   unfolding execute
   step-came d e =
       said CameBy _ d
-      (says-bind (ActSame m) CameBy (decide m (fetch m now) (readWord m now)) (commit m now) (decide-same m (fetch m now) (readWord m now)) commit-came) e
+      (says-bind (CrossesTo (Same m)) CameBy (decide m (fetch m now) (readWord m now)) (commit m now)
+      (decide-crosses m (Same m) (enter-same m) (leave-same m) (fetch m now) (readWord m now)) commit-came) e
 
 pub step-length : (m : Machine) (words : List ℕ) (d : Done) → execute m words ≡ ok d → length (d .words) ≡ length words
 step-length m words d e = step-came (m .layout) words m words (record { layout = refl; room = refl; past = λ i l. refl }) d e .room
