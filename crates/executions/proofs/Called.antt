@@ -26,7 +26,7 @@ use Rattle.executions.proofs.Crossings.{leave-facts}
 use Rattle.executions.proofs.Sound.{step-sound}
 use Rattle.executions.proofs.Words.{step-length}
 use Rattle.executions.proofs.Numbers.{fault-number}
-use Rattle.executions.specs.Called.{onStep, stepsCalled}
+use Rattle.executions.specs.Called.{afterStep, stepsCalled}
 use Rattle.executions.specs.Statements.{SoundRecord, StepsStretch}
 
 -- only a crossing changes the number of frames in use
@@ -83,14 +83,14 @@ steps-stretch (suc k) n m words sound long =
     rw (call-accepted m words (sound .0) long) (by (execute m words) refl (steps-stretch k (n + 1)))
   where
     completes : (e : Completion) (x : Machine) (now : List ℕ) → Told m e x → stepsCalled k (n + 1) x now ≡ runFrom true k (n + 1) x now
-        → onStep (stepsCalled k (n + 1)) n m (stepped m words (ok (done x now e))) ≡ afterCompletion true (runFrom true k (n + 1)) n x now e
+        → afterStep (stepsCalled k (n + 1)) n m (stepped m words (ok (done x now e))) ≡ afterCompletion true (runFrom true k (n + 1)) n x now e
     completes stopped x now t h = refl
     completes proceeded x now t h = rw (eq-eqb (x .depth) (m .depth) t) h
     completes crossing x now t h = rw (ne-eqb (x .depth) (m .depth) t) refl
 
     by : (e : Answer Done) → execute m words ≡ e
         → ((m : Machine) (words : List ℕ) → SoundRecord m → 8192 ≤ length words → stepsCalled k (n + 1) m words ≡ runFrom true k (n + 1) m words)
-        → onStep (stepsCalled k (n + 1)) n m (stepped m words e) ≡ after true (runFrom true k (n + 1)) n m words e
+        → afterStep (stepsCalled k (n + 1)) n m (stepped m words e) ≡ after true (runFrom true k (n + 1)) n m words e
     by (refuse f) q more = rw (ne-eqb f 0 (λ z. omega (arith, z, fault-number m words f q .0))) refl
     by (ok d) q more =
         completes (d .completion) (d .machine) (d .words) (step-depth m words d q)

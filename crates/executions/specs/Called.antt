@@ -8,8 +8,8 @@ use Rattle.runs.specs.Run.{Ran, ran, halted, spent, crossed, faulted}
 use Rattle.processor.specs.Calls.{Step, stepCall}
 
 -- after a call on m that gave s: they end at a number, at HALT, and where the number of frames in use has changed
-abbrev pub onStep : (Machine → List ℕ → Ran) → ℕ → Machine → Step → Ran
-onStep go n m s =
+abbrev pub afterStep : (Machine → List ℕ → Ran) → ℕ → Machine → Step → Ran
+afterStep go n m s =
     if eqb (s .number) 0 then (
     if s .halted then ran (s .machine) (s .words) (n + 1) halted else (
     if eqb (s .machine .depth) (m .depth) then go (s .machine) (s .words) else ran (s .machine) (s .words) (n + 1) crossed))
@@ -18,4 +18,4 @@ onStep go n m s =
 -- at most k calls more, n completed so far
 unfoldable pub stepsCalled : ℕ → ℕ → Machine → List ℕ → Ran
 stepsCalled zero n m words = ran m words n spent
-stepsCalled (suc k) n m words = onStep (stepsCalled k (n + 1)) n m (stepCall m words)
+stepsCalled (suc k) n m words = afterStep (stepsCalled k (n + 1)) n m (stepCall m words)
