@@ -2,7 +2,7 @@
 use Prim.Native.Nat.{ℕ, _+_, _-_, _<_, _≤_}
 use native.Mathlib.Omega.{arith}
 use mathlib.Core.Bool.{Bool, true, false}
-use mathlib.Core.List.{List, []}
+use mathlib.Core.List.{List}
 use mathlib.Core.Path.{_≡_, refl, sym, _∙_}
 use borrow.Author.Tests.{leb-true, ltb-true}
 use lib.Dec.{leb, ltb}
@@ -13,7 +13,7 @@ use Rattle.state.specs.Bases.{baseOf, basesOf}
 use Rattle.state.proofs.Sums.{base-apart, bases-at}
 use Rattle.soundness.specs.Sound.{soundTest}
 use Rattle.soundness.proofs.Facts.{sound-facts}
-use Rattle.segments.specs.Segment.{segmentCheck, unlessRefused, partOf, segmentPart}
+use Rattle.segments.specs.Segment.{segmentCheck, unlessRefused, partStart, partSize, segmentPart, wordPlace}
 
 pub record Given (m : Machine) (size number : ℕ) : Type 0 where
   pub accepted : segmentCheck m size number ≡ ok tt
@@ -46,26 +46,31 @@ given m size number n q z =
       room = omega (arith, s .words, base-apart (m .layout .lengths) number 16 h);
     }
 
-module _ (m : Machine) (words : List ℕ) (number : ℕ) where
-  -- a refused part is empty
-  pub no-part : (n : ℕ) → n ≡ numberOf (segmentCheck m (length words) number) → (n ≡ 0 → ⊥) → [] ≡ segmentPart m words number
-  no-part n q f = by (segmentCheck m (length words) number) (λ e. f (q ∙ e))
+module _ (m : Machine) (size number : ℕ) where
+  -- a refused part is empty, at the memory's start
+  pub none : (n : ℕ) → n ≡ numberOf (segmentCheck m size number) → (n ≡ 0 → ⊥) → (partStart m size number ≡ 0) × (partSize m size number ≡ 0)
+  none n q f = by (segmentCheck m size number) (λ e. f (q ∙ e))
     where
-      by : (a : Answer (Unit {0})) → (numberOf a ≡ 0 → ⊥) → [] ≡ unlessRefused a (partOf (m .layout .lengths) words number)
-      by (refuse k) f = refl
+      by : (a : Answer (Unit {0})) → (numberOf a ≡ 0 → ⊥)
+          → (unlessRefused a (baseOf (m .layout .lengths) number) ≡ 0) × (unlessRefused a (getD (m .layout .lengths) number 0) ≡ 0)
+      by (refuse k) f = (refl, refl)
       by (ok u) f = absurd (f refl)
 
-  -- a given part has as many words as the segment
-  pub part-length : Given m (length words) number → length (segmentPart m words number) ≡ getD (m .layout .lengths) number 0
-  part-length g = rw (g .accepted, length-take, length-drop) (omega (arith, g .room))
+  module _ (g : Given m size number) where
+    pub starts : partStart m size number ≡ baseOf (m .layout .lengths) number
+    starts = rw (g .accepted)
 
-  module _ (g : Given m (length words) number) (places : List ℕ) (q : places ≡ basesOf (m .layout .lengths)) where
-    pub base : getD places number 0 ≡ baseOf (m .layout .lengths) number
-    base = rw q (bases-at _ number (g .row))
+    pub sized : partSize m size number ≡ getD (m .layout .lengths) number 0
+    sized = rw (g .accepted)
 
-    -- the words from the base to the end
-    pub part : take (getD places number 0 + getD (m .layout .lengths) number 0 - getD places number 0) (drop (getD places number 0) words) ≡ segmentPart m words number
-    part = rw (back (getD places number 0) (getD (m .layout .lengths) number 0), base, g .accepted)
-      where
-        back : (a b : ℕ) → a + b - a ≡ b
-        back a b = omega arith
+-- a part that is given has as many words as the segment
+pub part-length : (m : Machine) (words : List ℕ) (number : ℕ) → Given m (length words) number → length (segmentPart m words number) ≡ getD (m .layout .lengths) number 0
+part-length m words number g = rw (length-take, length-drop, starts m (length words) number g, sized m (length words) number g) (omega (arith, g .room))
+
+-- the words between the bounds of a segment are its part, and lie at its place
+pub part : (m : Machine) (words : List ℕ) (number from to : ℕ) → (from ≡ partStart m (length words) number) × (to ≡ partStart m (length words) number + partSize m (length words) number)
+    → (start : ℕ × ℕ) → (take (to - from) (drop from words) ≡ segmentPart m words number) × (wordPlace start from ≡ wordPlace start (partStart m (length words) number))
+part m words number from to e start = rw (e .0, e .1, back (partStart m (length words) number) (partSize m (length words) number)) (refl, refl)
+  where
+    back : (a b : ℕ) → a + b - a ≡ b
+    back a b = omega arith

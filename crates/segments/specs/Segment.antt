@@ -1,6 +1,6 @@
 -- The part of the memory that a segment occupies.
-use Prim.Native.Nat.{ℕ}
-use mathlib.Core.List.{List, []}
+use Prim.Native.Nat.{ℕ, _+_, _*_}
+use mathlib.Core.List.{List}
 use lib.Dec.{leb, ltb}
 use lib.ListN.{length, take, drop, getD}
 use Rattle.words.specs.Answer.{numberOf, Answer, refuse, ok, _>>_, require}
@@ -14,19 +14,27 @@ unfoldable pub segmentCheck : Machine → ℕ → ℕ → Answer (Unit {0})
 segmentCheck m size number =
     require (soundTest m) notSound >> require (leb 8192 size) memoryTooShort >> require (ltb number (m .layout .segments)) noWord
 
--- a list where there is no refusal, else nothing
-abbrev pub unlessRefused : Answer (Unit {0}) → List ℕ → List ℕ
-unlessRefused (refuse n) xs = []
-unlessRefused (ok u) xs = xs
-
--- as many words as the segment has, from its base up
-abbrev pub partOf : List ℕ → List ℕ → ℕ → List ℕ
-partOf lengths words number = take (getD lengths number 0) (drop (baseOf lengths number) words)
-
 -- the number that the host gets with a segment
 abbrev pub segmentNumber : Machine → List ℕ → ℕ → ℕ
 segmentNumber m words number = numberOf (segmentCheck m (length words) number)
 
--- the part that the host gets
+-- a number where there is no refusal, else 0
+abbrev pub unlessRefused : Answer (Unit {0}) → ℕ → ℕ
+unlessRefused (refuse n) k = 0
+unlessRefused (ok u) k = k
+
+-- the word of the memory at which the part begins
+abbrev pub partStart : Machine → ℕ → ℕ → ℕ
+partStart m size number = unlessRefused (segmentCheck m size number) (baseOf (m .layout .lengths) number)
+
+-- how many words it has
+abbrev pub partSize : Machine → ℕ → ℕ → ℕ
+partSize m size number = unlessRefused (segmentCheck m size number) (getD (m .layout .lengths) number 0)
+
+-- the part that the host gets: as many words as the segment has, from its base up
 abbrev pub segmentPart : Machine → List ℕ → ℕ → List ℕ
-segmentPart m words number = unlessRefused (segmentCheck m (length words) number) (partOf (m .layout .lengths) words number)
+segmentPart m words number = take (partSize m (length words) number) (drop (partStart m (length words) number) words)
+
+-- where word k lies in a memory that begins at this block and offset: a word has four bytes
+abbrev pub wordPlace : ℕ × ℕ → ℕ → ℕ × ℕ
+wordPlace start k = (start .0, k * 4 + start .1)

@@ -1,6 +1,9 @@
 // The part of the memory that a segment occupies.
 ghost use mathlib.Core.Path.{_≡_};
-ghost use Rattle.segments.specs.Segment.{segmentCheck, segmentNumber, segmentPart};
+ghost use Prim.Native.Nat.{_+_, _≤_};
+ghost use lib.ListN.{length};
+ghost use denote.Ref.{ptr};
+ghost use Rattle.segments.specs.Segment.{segmentCheck, segmentNumber, segmentPart, partStart, partSize, wordPlace};
 ghost use Rattle.words.specs.Answer.{numberOf};
 use soundness::sound;
 use state::bases::bases;
@@ -29,32 +32,46 @@ pub fn segment_number(m: Machine, words: &[u32], number: u8) -> u8
     judge(m, words.len(), number)
 }
 
-// The words of a segment; none where segment_number refuses.
-pub fn segment(m: Machine, words: &[u32], number: u8) -> &[u32]
-    ensures { λ r. ⌜ now r ≡ segmentPart m (now (words .entry)) number ⌝ }
+// Where the part of a memory of size words that a segment occupies begins and ends.
+struct Bounds {
+    from: usize,
+    to: usize,
+}
+
+// The words of a segment; 0 to 0 where it is refused.
+fn span(m: Machine, size: usize, number: u8) -> Bounds
+    ensures { λ s. ⌜ (s .from ≡ partStart m size number) × (s .to ≡ partStart m size number + partSize m size number) ⌝ }
+    ensures { λ s. ⌜ s .to ≤ size ⌝ }
 {
-    if judge(m, words.len(), number) != 0 {
-        return &words[0..0];
+    if judge(m, size, number) != 0 {
+        return Bounds { from: 0, to: 0 };
     }
     let i = number as usize;
     let lengths = m.layout.lengths;
     let places = bases(&lengths);
     let from = places[i] as usize;
     let to = from + lengths[i] as usize;
+    Bounds { from, to }
+}
+
+// The words of a segment; none where segment_number refuses. The part lies at its place in the memory that is lent.
+pub fn segment(m: Machine, words: &[u32], number: u8) -> &[u32]
+    ensures { λ r. ⌜ now r ≡ segmentPart m (now (words .entry)) number ⌝ }
+    ensures { λ r. ⌜ ptr r ≡ wordPlace (ptr (words .entry)) (partStart m (length (now (words .entry))) number) ⌝ }
+{
+    let s = span(m, words.len(), number);
+    let from = s.from;
+    let to = s.to;
     &words[from..to]
 }
 
 // The same words, to be written.
 pub fn segment_mut(m: Machine, words: &mut [u32], number: u8) -> &mut [u32]
     ensures { λ r. ⌜ now r ≡ segmentPart m (now (words .entry)) number ⌝ }
+    ensures { λ r. ⌜ ptr r ≡ wordPlace (ptr (words .entry)) (partStart m (length (now (words .entry))) number) ⌝ }
 {
-    if judge(m, words.len(), number) != 0 {
-        return &mut words[0..0];
-    }
-    let i = number as usize;
-    let lengths = m.layout.lengths;
-    let places = bases(&lengths);
-    let from = places[i] as usize;
-    let to = from + lengths[i] as usize;
+    let s = span(m, words.len(), number);
+    let from = s.from;
+    let to = s.to;
     &mut words[from..to]
 }
