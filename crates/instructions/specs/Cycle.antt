@@ -1,6 +1,7 @@
 -- An instruction cycle, fetch and execute, as the loop makes it: everything but a crossing.
 use Prim.Native.Nat.{ℕ, _+_}
 use mathlib.Core.List.{List}
+use mathlib.Core.Path.{_≡_}
 use lib.ListN.{set}
 use Rattle.words.specs.Answer.{Answer, refuse, ok, _>>=_}
 use Rattle.words.specs.declared.pointer.Pointer.{Pointer}
@@ -32,6 +33,18 @@ eventAnswer r pointers (event.Faulted n) = refuse n
 
 abbrev pub cycleAnswer : List Pointer → Cycle → Answer Progress
 cycleAnswer pointers t = eventAnswer (t .registers) pointers (t .event)
+
+-- where nothing moved, the registers are those that came in
+abbrev pub staysBy : Registers → Registers → Event → Type 0
+staysBy r s event.Moved = Unit {0}
+staysBy r s (event.Pointed i p) = Unit {0}
+staysBy r s event.Halted = s ≡ r
+staysBy r s (event.Entering p) = s ≡ r
+staysBy r s (event.Leaving p) = s ≡ r
+staysBy r s (event.Faulted n) = s ≡ r
+
+abbrev pub Stays : Registers → Cycle → Type 0
+Stays r t = staysBy r (t .registers) (t .event)
 
 -- the registers with this A at this segment and word
 abbrev pub movedRegisters : Registers → ℕ → ℕ → ℕ → Registers

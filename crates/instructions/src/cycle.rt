@@ -3,7 +3,7 @@ ghost use mathlib.Core.Path.{_≡_};
 ghost use Prim.Native.Nat.{_<_};
 ghost use Rattle.memory.specs.Reader.{readOf};
 ghost use Rattle.instructions.specs.Instruction.{isLoad, isStore, valueOf, effectOf, executeOf};
-ghost use Rattle.instructions.specs.Cycle.{cycleAnswer, cycleOf, cycleWords, settledWords};
+ghost use Rattle.instructions.specs.Cycle.{Stays, cycleAnswer, cycleOf, cycleWords, settledWords};
 ghost use Rattle.instructions.specs.Private.{jumpsOf, settledAnswer};
 use crate::effects::call;
 use crate::effects::go_to;
@@ -106,6 +106,7 @@ fn effect<'a>(
     requires { ⌜ r .word < 65535 ⌝ }
     ensures { λ t. ⌜ cycleAnswer pointers t ≡ settledAnswer (now (lengths .entry)) (now (rights .entry)) (now (bases .entry)) (now (words .entry)) depth frame r pointers (effectOf (now (lengths .entry)) (now (gates .entry)) (now (rights .entry)) (now (stacks .entry)) depth r pointers (readOf (now (lengths .entry)) (now (rights .entry)) (now (bases .entry)) (now (words .entry)) (r .domain) depth frame) opcode register p) ⌝ }
     ensures { λ t. ⌜ now (words .exit) ≡ settledWords (now (lengths .entry)) (now (rights .entry)) (now (bases .entry)) (now (words .entry)) depth frame r pointers (effectOf (now (lengths .entry)) (now (gates .entry)) (now (rights .entry)) (now (stacks .entry)) depth r pointers (readOf (now (lengths .entry)) (now (rights .entry)) (now (bases .entry)) (now (words .entry)) (r .domain) depth frame) opcode register p) ⌝ }
+    ensures { λ t. ⌜ Stays r t ⌝ }
 {
     if is_load(opcode) {
         return load(lengths, rights, bases, words, depth, frame, r, opcode, p);
@@ -146,6 +147,7 @@ fn perform<'a>(
     requires { ⌜ r .word < 65535 ⌝ }
     ensures { λ t. ⌜ cycleAnswer pointers t ≡ settledAnswer (now (lengths .entry)) (now (rights .entry)) (now (bases .entry)) (now (words .entry)) depth frame r pointers (executeOf (now (lengths .entry)) (now (gates .entry)) (now (rights .entry)) (now (stacks .entry)) depth r pointers (readOf (now (lengths .entry)) (now (rights .entry)) (now (bases .entry)) (now (words .entry)) (r .domain) depth frame) i) ⌝ }
     ensures { λ t. ⌜ now (words .exit) ≡ settledWords (now (lengths .entry)) (now (rights .entry)) (now (bases .entry)) (now (words .entry)) depth frame r pointers (executeOf (now (lengths .entry)) (now (gates .entry)) (now (rights .entry)) (now (stacks .entry)) depth r pointers (readOf (now (lengths .entry)) (now (rights .entry)) (now (bases .entry)) (now (words .entry)) (r .domain) depth frame) i) ⌝ }
+    ensures { λ t. ⌜ Stays r t ⌝ }
 {
     let opcode = i.opcode;
     if opcode == 0 {
@@ -199,6 +201,7 @@ pub fn run_cycle<'a>(
 ) -> Cycle
     ensures { λ t. ⌜ cycleAnswer pointers t ≡ cycleOf (now (lengths .entry)) (now (gates .entry)) (now (rights .entry)) (now (stacks .entry)) (now (bases .entry)) (now (words .entry)) depth frame r pointers ⌝ }
     ensures { λ t. ⌜ now (words .exit) ≡ cycleWords (now (lengths .entry)) (now (gates .entry)) (now (rights .entry)) (now (stacks .entry)) (now (bases .entry)) (now (words .entry)) depth frame r pointers ⌝ }
+    ensures { λ t. ⌜ Stays r t ⌝ }
 {
     match fetch(lengths, rights, bases, words, r.domain, r.segment, r.word) {
         WordAnswer::Refused(n) => stay(r, Event::Faulted(n)),

@@ -6,7 +6,7 @@ ghost use Rattle.instructions.specs.Plan.{store};
 ghost use Rattle.transfers.specs.Transfer.{callWay};
 ghost use Rattle.instructions.specs.Instruction.{operateOf};
 ghost use Rattle.pointer_registers.specs.Stack.{stackOf};
-ghost use Rattle.instructions.specs.Cycle.{settled, movedRegisters};
+ghost use Rattle.instructions.specs.Cycle.{settled, movedRegisters, Stays};
 ghost use Rattle.instructions.specs.Private.{Cycles, loaded, called};
 use crate::cycle::Cycle;
 use crate::cycle::Event;
@@ -90,6 +90,7 @@ pub fn load<'a>(
 ) -> Cycle
     requires { ⌜ r .word < 65535 ⌝ }
     ensures { λ t. ⌜ Cycles t (λ ps. loaded r ps opcode (readOf (now (lengths .entry)) (now (rights .entry)) (now (bases .entry)) (now (words .entry)) (r .domain) depth frame p)) ⌝ }
+    ensures { λ t. ⌜ Stays r t ⌝ }
 {
     match read(lengths, rights, bases, words, r.domain, depth, frame, p) {
         WordAnswer::Refused(n) => stay(r, Event::Faulted(n)),
@@ -112,6 +113,7 @@ pub fn save<'a>(
     requires { ⌜ r .word < 65535 ⌝ }
     ensures { λ t. ⌜ Cycles t (λ ps. settled (now (lengths .entry)) (now (rights .entry)) (now (bases .entry)) (now (words .entry)) depth frame r ps (store p value)) ⌝ }
     ensures { λ t. ⌜ now (words .exit) ≡ writtenOf (now (lengths .entry)) (now (rights .entry)) (now (bases .entry)) (now (words .entry)) (r .domain) depth frame p value ⌝ }
+    ensures { λ t. ⌜ Stays r t ⌝ }
 {
     let n = write(
         lengths,
@@ -141,6 +143,7 @@ pub fn call<'a>(
     p: Pointer,
 ) -> Cycle
     ensures { λ t. ⌜ Cycles t (λ ps. called r ps (stackOf (now (stacks .entry)) (r .domain)) p (callWay (now (lengths .entry)) (now (gates .entry)) (now (rights .entry)) (r .domain) depth p)) ⌝ }
+    ensures { λ t. ⌜ Stays r t ⌝ }
 {
     match call_way(lengths, gates, rights, r.domain, depth, p) {
         CallAnswer::Refused(n) => stay(r, Event::Faulted(n)),

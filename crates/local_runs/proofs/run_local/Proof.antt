@@ -52,7 +52,7 @@ loop-again : tie.Need-loop-again Inv-loop μ-loop
 loop-again c =
     let t = c .before .before .before .before in
     let l = t .before .before in
-    goes _ _ _ _ _ _ _ _ _ _ _ _ _ _ _ _ (l .before .loop .inv) (l .loop-test .taken) _ _ _ (sym (t .run-cycle .ensures .0) ∙ ap (eventAnswer _ _) (c .enum-told .given .1)) (t .run-cycle .ensures .1)
+    goes _ _ _ _ _ _ _ _ _ _ _ _ _ _ _ _ (l .before .loop .inv) (l .loop-test .taken) _ _ _ (sym (t .run-cycle .ensures .0) ∙ ap (eventAnswer _ _) (c .enum-told .given .1)) (t .run-cycle .ensures .1 .0)
 
 enum-known-event : tie.Need-enum-known-event Inv-loop μ-loop
 enum-known-event c = search needs
@@ -70,13 +70,13 @@ loop-again-2 : tie.Need-loop-again-2 Inv-loop μ-loop
 loop-again-2 c =
     let t = c .before .before .before .before .before .before in
     let l = t .before .before in
-    goes _ _ _ _ _ _ _ _ _ _ _ _ _ _ _ _ (l .before .loop .inv) (l .loop-test .taken) _ _ _ (sym (t .run-cycle .ensures .0) ∙ ap (eventAnswer _ _) (c .before .before .event .given .1) ∙ ap (λ (ps : List Pointer). ok (moved (t .run-cycle .result .registers) ps)) (sym (c .with-pointer .ensures))) (t .run-cycle .ensures .1)
+    goes _ _ _ _ _ _ _ _ _ _ _ _ _ _ _ _ (l .before .loop .inv) (l .loop-test .taken) _ _ _ (sym (t .run-cycle .ensures .0) ∙ ap (eventAnswer _ _) (c .before .before .event .given .1) ∙ ap (λ (ps : List Pointer). ok (moved (t .run-cycle .result .registers) ps)) (sym (c .with-pointer .ensures))) (t .run-cycle .ensures .1 .0)
 
 same-length : tie.Need-same-length Inv-loop μ-loop
 same-length c =
     let t = c .before .before .before in
     let l = t .before .before in
-    ap length (t .run-cycle .ensures .1) ∙ cycle-length _ _ _ _ _ _ _ _ _ _ ∙ l .before .loop .inv .same
+    ap length (t .run-cycle .ensures .1 .0) ∙ cycle-length _ _ _ _ _ _ _ _ _ _ ∙ l .before .loop .inv .same
 
 returns : tie.Need-returns Inv-loop μ-loop
 returns c =
@@ -85,7 +85,7 @@ returns c =
     let x = t .run-cycle .result .event in
     let s = stops x (λ m. another 0 (omega arith) (rw m at (c .match .keys3))) (λ i p m. another 1 (omega arith) (rw m at (c .match .keys3))) in
     let e = pauses _ _ _ _ _ _ _ _ _ _ _ _ _ _ _ _ (l .before .loop .inv) (l .loop-test .taken) _ x (t .run-cycle .ensures .0) s in
-    (sym (ap (λ (q : Paused). q .pause) e), t .run-cycle .ensures .1 ∙ sym (ap (λ (q : Paused). q .words) e))
+    (sym (ap (λ (q : Paused). q .pause) e), t .run-cycle .ensures .1 .0 ∙ sym (ap (λ (q : Paused). q .words) e))
 
 same-length-2 : tie.Need-same-length-2 Inv-loop μ-loop
 same-length-2 c = c .before .loop .inv .same

@@ -1,11 +1,11 @@
 -- `instructions::cycle::effect` meets its contract.
 use borrow.Author.Needs.{needs}
 use mathlib.Core.Bool.{true, false}
-use mathlib.Core.Path.{_≡_, refl, sym, ap, _∙_}
+use mathlib.Core.Path.{_≡_, refl, sym, ap, _∙_, subst}
 use borrow.Author.Tests.{eq-eqb, ne-eqb}
 use Rattle.memory.specs.Reader.{readOf}
 use Rattle.instructions.specs.Instruction.{isLoad, isStore, effectOf}
-use Rattle.instructions.specs.Cycle.{cycleAnswer}
+use Rattle.instructions.specs.Cycle.{Stays, cycleAnswer}
 use Rattle.instructions.proofs.Cycles.{load-settles, jump-settles, call-settles}
 use Rattle.instructions.proofs.Jumps.{jumping, moving-on, leaving-by}
 use Rattle.instructions.proofs.cycle.effect.Statement.{statement}
@@ -26,7 +26,7 @@ returns c =
     let i = c .before .before in
     let a = i .before .before .before .args in
     let s = load-settles (a .lengths .now) (a .gates .now) (a .rights .now) (a .stacks .now) (a .bases .now) (a .words .now) (a .depth) (a .frame) (a .r) (a .pointers) (readOf (a .lengths .now) (a .rights .now) (a .bases .now) (a .words .now) (a .r .domain) (a .depth) (a .frame)) (a .opcode) (a .p) in
-    simp (sym (i .before .is-load .ensures) ∙ i .if1 .taken) (c .load .ensures (a .pointers) ∙ sym (s .there), sym (s .words-stay))
+    simp (sym (i .before .is-load .ensures) ∙ i .if1 .taken) (c .load .ensures .0 (a .pointers) ∙ sym (s .there), (sym (s .words-stay), c .load .ensures .1))
 
 is-store-requires : tie.Need-is-store-requires
 is-store-requires c κs = search needs
@@ -49,7 +49,7 @@ returns-2 c =
     let j = i .before .before in
     let a = j .before .before .before .args in
     let e = rw (u .value .ensures) at (v .save .ensures) in
-    simp (sym (j .before .is-load .ensures) ∙ j .if1 .left, sym (i .before .is-store .ensures) ∙ i .if2 .taken) (e .0 (a .pointers), e .1)
+    simp (sym (j .before .is-load .ensures) ∙ j .if1 .left, sym (i .before .is-store .ensures) ∙ i .if2 .taken) (e .0 (a .pointers), (e .1 .0, e .1 .1))
 
 jumps-requires : tie.Need-jumps-requires
 jumps-requires c κs = search needs
@@ -76,7 +76,7 @@ returns-3 c =
     let a = e .before .before .before .before .before .args in
     let s = jump-settles (a .lengths .now) (a .gates .now) (a .rights .now) (a .stacks .now) (a .bases .now) (a .words .now) (a .depth) (a .frame) (a .r) (a .pointers) (a .p) in
     let d = jumping (a .lengths .now) (a .gates .now) (a .rights .now) (a .stacks .now) (a .depth) (a .r) (a .pointers) (readOf (a .lengths .now) (a .rights .now) (a .bases .now) (a .words .now) (a .r .domain) (a .depth) (a .frame)) (a .opcode) (a .register) (a .p) (no-load e) (no-store e) (sym (j .before .jumps .ensures) ∙ j .if3 .taken) in
-    rw d (ap (cycleAnswer (a .pointers)) (c .stay .ensures) ∙ simp (s .there, ← k .jump-check .ensures, ne-eqb _ _ (i .if4 .taken)), sym (s .words-stay))
+    rw d (ap (cycleAnswer (a .pointers)) (c .stay .ensures) ∙ simp (s .there, ← k .jump-check .ensures, ne-eqb _ _ (i .if4 .taken)), (sym (s .words-stay), subst (Stays _) (sym (c .stay .ensures)) refl))
 
 go-to-requires : tie.Need-go-to-requires
 go-to-requires c κs = search needs
@@ -90,7 +90,7 @@ returns-4 c =
     let a = e .before .before .before .before .before .args in
     let s = jump-settles (a .lengths .now) (a .gates .now) (a .rights .now) (a .stacks .now) (a .bases .now) (a .words .now) (a .depth) (a .frame) (a .r) (a .pointers) (a .p) in
     let d = jumping (a .lengths .now) (a .gates .now) (a .rights .now) (a .stacks .now) (a .depth) (a .r) (a .pointers) (readOf (a .lengths .now) (a .rights .now) (a .bases .now) (a .words .now) (a .r .domain) (a .depth) (a .frame)) (a .opcode) (a .register) (a .p) (no-load e) (no-store e) (sym (j .before .jumps .ensures) ∙ j .if3 .taken) in
-    rw d (ap (cycleAnswer (a .pointers)) (c .go-to .ensures) ∙ simp (s .there, ← k .jump-check .ensures, eq-eqb _ _ (i .if4 .left)), sym (s .words-stay))
+    rw d (ap (cycleAnswer (a .pointers)) (c .go-to .ensures) ∙ simp (s .there, ← k .jump-check .ensures, eq-eqb _ _ (i .if4 .left)), (sym (s .words-stay), subst (Stays _) (sym (c .go-to .ensures)) tt))
 
 onward-requires : tie.Need-onward-requires
 onward-requires c κs = search needs
@@ -110,7 +110,7 @@ returns-5 c =
     let m = c .before in
     let e = m .before .before .before in
     let a = e .before .before .before .before .before .args in
-    simp (no-load e, no-store e) (rw (m .match .keys1) (ap (cycleAnswer (a .pointers)) (c .onward .ensures), refl))
+    simp (no-load e, no-store e) (rw (m .match .keys1) (ap (cycleAnswer (a .pointers)) (c .onward .ensures), (refl, subst (Stays _) (sym (c .onward .ensures)) tt)))
 
 returns-6 : tie.Need-returns-6
 unfolding effectOf
@@ -119,7 +119,7 @@ returns-6 c =
     let e = m .before .before .before in
     let a = e .before .before .before .before .before .args in
     let s = call-settles (a .lengths .now) (a .gates .now) (a .rights .now) (a .stacks .now) (a .bases .now) (a .words .now) (a .depth) (a .frame) (a .r) (a .pointers) (a .p) in
-    simp (no-load e, no-store e) (rw (m .match .keys2) (c .call .ensures (a .pointers) ∙ sym (s .there), sym (s .words-stay)))
+    simp (no-load e, no-store e) (rw (m .match .keys2) (c .call .ensures .0 (a .pointers) ∙ sym (s .there), (sym (s .words-stay), c .call .ensures .1)))
 
 returns-7 : tie.Need-returns-7
 returns-7 c =
@@ -128,7 +128,7 @@ returns-7 c =
     let e = j .before .before in
     let a = e .before .before .before .before .before .args in
     let d = leaving-by (a .lengths .now) (a .gates .now) (a .rights .now) (a .stacks .now) (a .depth) (a .r) (a .pointers) (readOf (a .lengths .now) (a .rights .now) (a .bases .now) (a .words .now) (a .r .domain) (a .depth) (a .frame)) (a .opcode) (a .register) (a .p) (no-load e) (no-store e) (sym (j .before .jumps .ensures) ∙ j .if3 .left) (m .match .keys3) in
-    rw d (ap (cycleAnswer (a .pointers)) (c .stay2 .ensures), refl)
+    rw d (ap (cycleAnswer (a .pointers)) (c .stay2 .ensures), (refl, subst (Stays _) (sym (c .stay2 .ensures)) refl))
 
 returns-8 : tie.Need-returns-8
 returns-8 c =
@@ -138,7 +138,7 @@ returns-8 c =
     let a = e .before .before .before .before .before .args in
     let n = m .match .rest in
     let d = moving-on (a .lengths .now) (a .gates .now) (a .rights .now) (a .stacks .now) (a .depth) (a .r) (a .pointers) (readOf (a .lengths .now) (a .rights .now) (a .bases .now) (a .words .now) (a .r .domain) (a .depth) (a .frame)) (a .opcode) (a .register) (a .p) (no-load e) (no-store e) (sym (j .before .jumps .ensures) ∙ j .if3 .left) (ne-eqb _ _ (n .0 .0 .1)) (ne-eqb _ _ (n .0 .1)) (ne-eqb _ _ (n .1)) in
-    rw d (ap (cycleAnswer (a .pointers)) (c .onward2 .ensures), refl)
+    rw d (ap (cycleAnswer (a .pointers)) (c .onward2 .ensures), (refl, subst (Stays _) (sym (c .onward2 .ensures)) tt))
 
 pub effect-spec : {M : Type 1} → statement M
 effect-spec =

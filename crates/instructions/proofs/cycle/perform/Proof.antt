@@ -1,13 +1,13 @@
 -- `instructions::cycle::perform` meets its contract.
 use borrow.Author.Needs.{needs}
-use mathlib.Core.Path.{_≡_, refl, sym, ap, _∙_}
+use mathlib.Core.Path.{_≡_, refl, sym, ap, _∙_, subst}
 use borrow.Author.Tests.{eq-eqb, ne-eqb}
 use mir.Syntax.{w32}
 use mir.Val.{SFits}
 use mir.ValLaws.{toZ-ofZ}
 use Rattle.words.specs.Offset.{literalOf}
 use Rattle.instructions.specs.Instruction.{executeOf}
-use Rattle.instructions.specs.Cycle.{cycleAnswer}
+use Rattle.instructions.specs.Cycle.{Stays, cycleAnswer}
 use Rattle.instructions.proofs.cycle.perform.Statement.{statement}
 use Rattle.instructions.proofs.cycle.perform.Tie as tie
 
@@ -16,7 +16,7 @@ stay-requires c κs = search needs
 
 returns : tie.Need-returns
 unfolding executeOf
-returns c = let i = c .before in simp (eq-eqb _ _ (i .if1 .taken)) (ap (cycleAnswer _) (c .stay .ensures), refl)
+returns c = let i = c .before in simp (eq-eqb _ _ (i .if1 .taken)) (ap (cycleAnswer _) (c .stay .ensures), (refl, subst (Stays _) (sym (c .stay .ensures)) refl))
 
 literal-requires : tie.Need-literal-requires
 literal-requires c κs = search needs
@@ -33,7 +33,7 @@ unfolding executeOf
 returns-2 c =
     let l = c .before in
     let i = l .before .before in
-    simp (ne-eqb _ _ (i .before .if1 .left), eq-eqb _ _ (i .if2 .taken)) (ap (cycleAnswer _) (rw (told l) at (c .onward .ensures)), refl)
+    simp (ne-eqb _ _ (i .before .if1 .left), eq-eqb _ _ (i .if2 .taken)) (ap (cycleAnswer _) (rw (told l) at (c .onward .ensures)), (refl, subst (Stays _) (sym (c .onward .ensures)) tt))
 
 effective-requires : tie.Need-effective-requires
 effective-requires c κs = search needs
@@ -59,7 +59,7 @@ returns-3 c =
     let k = c .before .before in
     let e = k .before .before in
     let i = e .before .before in
-    simp (ne-eqb _ _ (i .before .if1 .left), ne-eqb _ _ (i .if2 .left), ← e .effective .ensures, k .n .given .1) (ap (cycleAnswer _) (c .stay2 .ensures), refl)
+    simp (ne-eqb _ _ (i .before .if1 .left), ne-eqb _ _ (i .if2 .left), ← e .effective .ensures, k .n .given .1) (ap (cycleAnswer _) (c .stay2 .ensures), (refl, subst (Stays _) (sym (c .stay2 .ensures)) refl))
 
 same-length-2 : tie.Need-same-length-2
 same-length-2 c = search needs
@@ -71,7 +71,7 @@ returns-4 c =
     let k = f .before .before .before in
     let e = k .before .before in
     let i = e .before .before in
-    simp (ne-eqb _ _ (i .before .if1 .left), ne-eqb _ _ (i .if2 .left), ← e .effective .ensures, k .p .given .1) (f .effect .ensures .0, f .effect .ensures .1)
+    simp (ne-eqb _ _ (i .before .if1 .left), ne-eqb _ _ (i .if2 .left), ← e .effective .ensures, k .p .given .1) (f .effect .ensures .0, (f .effect .ensures .1 .0, f .effect .ensures .1 .1))
 
 pub perform-spec : {M : Type 1} → statement M
 perform-spec =

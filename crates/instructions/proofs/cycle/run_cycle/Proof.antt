@@ -1,8 +1,8 @@
 -- `instructions::cycle::run_cycle` meets its contract.
 use borrow.Author.Needs.{needs}
-use mathlib.Core.Path.{_≡_, refl, sym, ap, _∙_}
+use mathlib.Core.Path.{_≡_, refl, sym, ap, _∙_, subst}
 use Rattle.instructions.specs.Instruction.{planOf}
-use Rattle.instructions.specs.Cycle.{cycleAnswer, cycleOf, cycleWords}
+use Rattle.instructions.specs.Cycle.{Stays, cycleAnswer, cycleOf, cycleWords}
 use Rattle.instructions.proofs.cycle.run_cycle.Statement.{statement}
 use Rattle.instructions.proofs.cycle.run_cycle.Tie as tie
 
@@ -43,7 +43,7 @@ returns : tie.Need-returns
 unfolding cycleOf cycleWords planOf
 returns c =
     let k = c .before .before in
-    simp (← k .before .before .fetch .ensures .0, k .n .given .1) (ap (cycleAnswer _) (c .stay .ensures), refl)
+    simp (← k .before .before .fetch .ensures .0, k .n .given .1) (ap (cycleAnswer _) (c .stay .ensures), (refl, subst (Stays _) (sym (c .stay .ensures)) refl))
 
 same-length-2 : tie.Need-same-length-2
 same-length-2 c = search needs
@@ -54,7 +54,7 @@ returns-2 c =
     let k = c .before .before in
     let d = k .before .before in
     let w = d .before .before in
-    simp (← w .before .before .fetch .ensures .0, w .w .given .1, ← d .decode .ensures, k .n2 .given .1) (ap (cycleAnswer _) (c .stay2 .ensures), refl)
+    simp (← w .before .before .fetch .ensures .0, w .w .given .1, ← d .decode .ensures, k .n2 .given .1) (ap (cycleAnswer _) (c .stay2 .ensures), (refl, subst (Stays _) (sym (c .stay2 .ensures)) refl))
 
 same-length-3 : tie.Need-same-length-3
 same-length-3 c = search needs
@@ -66,7 +66,7 @@ returns-3 c =
     let k = f .before .before .before in
     let d = k .before .before in
     let w = d .before .before in
-    simp (← w .before .before .fetch .ensures .0, w .w .given .1, ← d .decode .ensures, k .i .given .1) (f .perform .ensures .0, f .perform .ensures .1)
+    simp (← w .before .before .fetch .ensures .0, w .w .given .1, ← d .decode .ensures, k .i .given .1) (f .perform .ensures .0, (f .perform .ensures .1 .0, f .perform .ensures .1 .1))
 
 pub run-cycle-spec : {M : Type 1} → statement M
 run-cycle-spec =

@@ -1,7 +1,7 @@
 -- `instructions::effects::call` meets its contract.
 use borrow.Author.Needs.{needs}
-use mathlib.Core.Path.{_≡_, refl, sym, ap, _∙_}
-use Rattle.instructions.specs.Cycle.{cycleAnswer}
+use mathlib.Core.Path.{_≡_, refl, sym, ap, _∙_, subst}
+use Rattle.instructions.specs.Cycle.{Stays, cycleAnswer}
 use Rattle.instructions.proofs.effects.call.Statement.{statement}
 use Rattle.instructions.proofs.effects.call.Tie as tie
 
@@ -30,20 +30,20 @@ go-to-requires : tie.Need-go-to-requires
 go-to-requires c κs = search needs
 
 returns : tie.Need-returns
-returns c ps =
+returns c =
     let k = c .before .before in
-    ap (cycleAnswer ps) (c .stay .ensures) ∙ simp (← k .before .before .call-way .ensures, k .n .given .1)
+    (λ ps. ap (cycleAnswer ps) (c .stay .ensures) ∙ simp (← k .before .before .call-way .ensures, k .n .given .1), subst (Stays _) (sym (c .stay .ensures)) refl)
 
 returns-2 : tie.Need-returns-2
-returns-2 c ps =
+returns-2 c =
     let k = c .before in
-    ap (cycleAnswer ps) (c .stay2 .ensures) ∙ simp (← k .before .before .call-way .ensures, k .enum-told .given .1)
+    (λ ps. ap (cycleAnswer ps) (c .stay2 .ensures) ∙ simp (← k .before .before .call-way .ensures, k .enum-told .given .1), subst (Stays _) (sym (c .stay2 .ensures)) refl)
 
 returns-3 : tie.Need-returns-3
-returns-3 c ps =
+returns-3 c =
     let b = c .before in
     let k = b .before in
-    ap (cycleAnswer ps) (c .go-to .ensures) ∙ simp (← k .before .before .call-way .ensures, k .enum-told2 .given .1, b .stack-of .ensures)
+    (λ ps. ap (cycleAnswer ps) (c .go-to .ensures) ∙ simp (← k .before .before .call-way .ensures, k .enum-told2 .given .1, b .stack-of .ensures), subst (Stays _) (sym (c .go-to .ensures)) tt)
 
 pub call-spec : {M : Type 1} → statement M
 call-spec =

@@ -1,7 +1,7 @@
 -- `instructions::effects::load` meets its contract.
 use borrow.Author.Needs.{needs}
-use mathlib.Core.Path.{_≡_, refl, sym, ap, _∙_}
-use Rattle.instructions.specs.Cycle.{cycleAnswer}
+use mathlib.Core.Path.{_≡_, refl, sym, ap, _∙_, subst}
+use Rattle.instructions.specs.Cycle.{Stays, cycleAnswer}
 use Rattle.instructions.proofs.effects.load.Statement.{statement}
 use Rattle.instructions.proofs.effects.load.Tie as tie
 
@@ -24,15 +24,15 @@ onward-requires : tie.Need-onward-requires
 onward-requires c κs = search needs
 
 returns : tie.Need-returns
-returns c ps =
+returns c =
     let k = c .before .before in
-    ap (cycleAnswer ps) (c .stay .ensures) ∙ simp (← k .before .before .read .ensures, k .n .given .1)
+    (λ ps. ap (cycleAnswer ps) (c .stay .ensures) ∙ simp (← k .before .before .read .ensures, k .n .given .1), subst (Stays _) (sym (c .stay .ensures)) refl)
 
 returns-2 : tie.Need-returns-2
-returns-2 c ps =
+returns-2 c =
     let o = c .before in
     let k = o .before .before in
-    ap (cycleAnswer ps) (c .onward .ensures) ∙ simp (← k .before .before .read .ensures, k .w .given .1, o .operate .ensures)
+    (λ ps. ap (cycleAnswer ps) (c .onward .ensures) ∙ simp (← k .before .before .read .ensures, k .w .given .1, o .operate .ensures), subst (Stays _) (sym (c .onward .ensures)) tt)
 
 pub load-spec : {M : Type 1} → statement M
 load-spec =

@@ -1,7 +1,7 @@
 -- `instructions::effects::save` meets its contract.
 use borrow.Author.Needs.{needs}
-use mathlib.Core.Path.{_≡_, refl, sym, ap, _∙_}
-use Rattle.instructions.specs.Cycle.{cycleAnswer}
+use mathlib.Core.Path.{_≡_, refl, sym, ap, _∙_, subst}
+use Rattle.instructions.specs.Cycle.{Stays, cycleAnswer}
 use borrow.Author.Tests.{eq-eqb, ne-eqb}
 use Rattle.instructions.proofs.effects.save.Statement.{statement}
 use Rattle.instructions.proofs.effects.save.Tie as tie
@@ -19,7 +19,7 @@ returns : tie.Need-returns
 returns c =
     let i = c .before in
     let w = i .before .before .before in
-    (λ ps. ap (cycleAnswer ps) (c .stay .ensures) ∙ simp (← w .write .ensures .0, ne-eqb _ _ (i .if1 .taken)), w .write .ensures .1)
+    (λ ps. ap (cycleAnswer ps) (c .stay .ensures) ∙ simp (← w .write .ensures .0, ne-eqb _ _ (i .if1 .taken)), (w .write .ensures .1, subst (Stays _) (sym (c .stay .ensures)) refl))
 
 onward-requires : tie.Need-onward-requires
 onward-requires c κs = search needs
@@ -31,7 +31,7 @@ returns-2 : tie.Need-returns-2
 returns-2 c =
     let i = c .before in
     let w = i .before .before .before in
-    (λ ps. ap (cycleAnswer ps) (c .onward .ensures) ∙ simp (← w .write .ensures .0, eq-eqb _ _ (i .if1 .left)), w .write .ensures .1)
+    (λ ps. ap (cycleAnswer ps) (c .onward .ensures) ∙ simp (← w .write .ensures .0, eq-eqb _ _ (i .if1 .left)), (w .write .ensures .1, subst (Stays _) (sym (c .onward .ensures)) tt))
 
 pub save-spec : {M : Type 1} → statement M
 save-spec =
