@@ -1,3 +1,4 @@
 pub mod Fields
 pub mod Integers
 pub mod RoundTrips
+pub mod Last
