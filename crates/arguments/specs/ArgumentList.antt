@@ -70,5 +70,7 @@ unfoldable pub frameOf : Reader → Pointer → Pointer → ℕ → ℕ → Fram
 frameOf read a s caller depth live =
     listWord read a 0 >>= (λ n. require (leb n 8) badArgument >> frameAfter read a s caller depth live n)
 
-abbrev pub frameAnswer : Framed → Answer Frame
-frameAnswer r = if r .refused then refuse (r .number) else ok (r .frame)
+-- the code's answer: a frame made, or a refusal by its number with the live frame as it came in
+abbrev pub framedBy : Frame → Answer Frame → Framed
+framedBy live (refuse n) = record { frame = live; number = n; refused = true }
+framedBy live (ok f) = record { frame = f; number = 0; refused = false }

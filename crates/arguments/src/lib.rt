@@ -7,7 +7,7 @@ ghost use Rattle.state.specs.Record.{noCapability};
 ghost use Rattle.capabilities.specs.Search.{capabilityAnswer};
 ghost use Rattle.references.specs.Live.{sourceAnswer};
 ghost use Rattle.memory.specs.Reader.{readOf, wordAnswer};
-ghost use Rattle.arguments.specs.ArgumentList.{listWord, sourceOf, capabilityOf, argumentOf, argumentsFrom, filledOf, frameAfter, frameOf, frameAnswer};
+ghost use Rattle.arguments.specs.ArgumentList.{listWord, sourceOf, capabilityOf, argumentOf, argumentsFrom, filledOf, frameAfter, frameOf, framedBy};
 ghost use Rattle.arguments.specs.Private.{rowsAnswer};
 use capabilities::CapabilityAnswer;
 use memory::WordAnswer;
@@ -192,7 +192,7 @@ fn arguments<'a>(
     }
 }
 
-// A frame, or a refusal by its number.
+// A frame, or a refusal by its number with the frame that came in.
 pub struct Framed {
     pub frame: Frame,
     pub number: u8,
@@ -246,7 +246,7 @@ fn frame_after<'a>(
     n: u8,
 ) -> Framed
     requires { ⌜ n ≤ 8 ⌝ }
-    ensures { λ r. ⌜ frameAnswer r ≡ frameAfter (readOf (now (lengths .entry)) (now (rights .entry)) (now (bases .entry)) (now (words .entry)) domain depth frame) a s domain depth frame n ⌝ }
+    ensures { λ r. ⌜ r ≡ framedBy frame (frameAfter (readOf (now (lengths .entry)) (now (rights .entry)) (now (bases .entry)) (now (words .entry)) domain depth frame) a s domain depth frame n) ⌝ }
 {
     match list_word(lengths, rights, bases, words, domain, depth, frame, a, 1) {
         WordAnswer::Refused(number) => refuse(frame, number),
@@ -299,7 +299,7 @@ pub fn make_frame<'a>(
     a: Pointer,
     s: Pointer,
 ) -> Framed
-    ensures { λ r. ⌜ frameAnswer r ≡ frameOf (readOf (now (lengths .entry)) (now (rights .entry)) (now (bases .entry)) (now (words .entry)) domain depth frame) a s domain depth frame ⌝ }
+    ensures { λ r. ⌜ r ≡ framedBy frame (frameOf (readOf (now (lengths .entry)) (now (rights .entry)) (now (bases .entry)) (now (words .entry)) domain depth frame) a s domain depth frame) ⌝ }
 {
     match list_word(lengths, rights, bases, words, domain, depth, frame, a, 0) {
         WordAnswer::Refused(number) => refuse(frame, number),

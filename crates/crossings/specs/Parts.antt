@@ -1,8 +1,9 @@
 -- A crossing as the loop makes it: what it changes, apart from the row that its frame goes into.
 use Prim.Native.Nat.{ℕ}
+use mathlib.Core.Bool.{true, false}
 use mathlib.Core.List.{List}
 use lib.ListN.{set}
-use Rattle.words.specs.Answer.{Answer, refuse, ok, _>>=_, _>>_, if_then_else_}
+use Rattle.words.specs.Answer.{Answer, refuse, ok, _>>=_}
 use Rattle.words.specs.declared.pointer.Pointer.{Pointer}
 use Rattle.state.specs.declared.record.Frame.{Frame}
 use Rattle.state.specs.declared.record.Registers.{Registers}
@@ -18,9 +19,10 @@ pub record Changes : Type 0 where
   pub pointers : List Pointer
   pub registers : Registers
 
--- what the code's answer stands for
-abbrev pub crossedAnswer : Crossed → Answer Changes
-crossedAnswer c = if c .refused then refuse (c .number) else ok (record { frame = c .frame; pointers = c .pointers; registers = c .registers })
+-- the code's answer: what changes, or a refusal by its number with frame, pointers and registers as they came in
+unfoldable pub crossedBy : Frame → List Pointer → Registers → Answer Changes → Crossed
+crossedBy frame pointers r (refuse n) = record { frame = frame; pointers = pointers; registers = r; number = n; refused = true }
+crossedBy frame pointers r (ok c) = record { frame = c .frame; pointers = c .pointers; registers = c .registers; number = 0; refused = false }
 
 -- what a call through the gate at p changes, with its frame
 abbrev pub enterParts : List ℕ → List ℕ → Registers → List Pointer → Pointer → Answer Frame → Answer Changes

@@ -1,11 +1,12 @@
 // Calls through a gate and returns across domains (cross-domain calls and returns).
 ghost use mathlib.Core.Path.{_≡_};
+ghost use mathlib.Core.Bool.{true};
 ghost use lib.ListN.{getD};
 ghost use Rattle.state.specs.Record.{noPointer, ofSegment};
 ghost use Rattle.memory.specs.Reader.{readOf};
 ghost use Rattle.arguments.specs.ArgumentList.{frameOf};
 ghost use Rattle.crossings.specs.Crossing.{samePlace, atPlace, withTag, leaveCheck};
-ghost use Rattle.crossings.specs.Parts.{crossedAnswer, enterParts, leaveParts};
+ghost use Rattle.crossings.specs.Parts.{crossedBy, enterParts, leaveParts};
 use arguments::make_frame;
 use pointer_registers::pointer_at;
 use pointer_registers::stack_of;
@@ -18,7 +19,7 @@ use state::record::Frame;
 use state::record::Registers;
 use words::pointer::Pointer;
 
-// What changes at a crossing: the registers, the pointers, and the frame's row. Or a refusal by its number.
+// What changes at a crossing: the registers, the pointers, and the frame's row. Or a refusal by its number with all three as they came in.
 pub struct Crossed {
     pub frame: Frame,
     pub pointers: [Pointer; 8],
@@ -73,6 +74,19 @@ fn with_tag(pointers: [Pointer; 8]) -> [Pointer; 8]
     with_pointer(pointers, 0, on)
 }
 
+// A refusal, with frame, pointers and registers as they came in.
+fn refuse(frame: Frame, pointers: [Pointer; 8], registers: Registers, number: u8) -> Crossed
+    ensures { λ c. ⌜ c ≡ record { frame = frame; pointers = pointers; registers = registers; number = number; refused = true } ⌝ }
+{
+    Crossed {
+        frame,
+        pointers,
+        registers,
+        number,
+        refused: true,
+    }
+}
+
 // CALL through the gate at p.
 pub fn enter<'a>(
     lengths: &'a [u16; 16],
@@ -87,7 +101,7 @@ pub fn enter<'a>(
     pointers: [Pointer; 8],
     p: Pointer,
 ) -> Crossed
-    ensures { λ c. ⌜ crossedAnswer c ≡ enterParts (now (gatedomains .entry)) (now (stacks .entry)) r pointers p (frameOf (readOf (now (lengths .entry)) (now (rights .entry)) (now (bases .entry)) (now (words .entry)) (r .domain) depth frame) (getD pointers 0 noPointer) (getD pointers 1 noPointer) (r .domain) depth frame) ⌝ }
+    ensures { λ c. ⌜ c ≡ crossedBy frame pointers r (enterParts (now (gatedomains .entry)) (now (stacks .entry)) r pointers p (frameOf (readOf (now (lengths .entry)) (now (rights .entry)) (now (bases .entry)) (now (words .entry)) (r .domain) depth frame) (getD pointers 0 noPointer) (getD pointers 1 noPointer) (r .domain) depth frame)) ⌝ }
 {
     let made = make_frame(
         lengths,
@@ -100,16 +114,10 @@ pub fn enter<'a>(
         pointer_at(pointers, 0),
         pointer_at(pointers, 1),
     );
-    let next = made.frame;
     if made.refused {
-        return Crossed {
-            frame: next,
-            pointers,
-            registers: r,
-            number: made.number,
-            refused: true,
-        };
+        return refuse(frame, pointers, r, made.number);
     }
+    let next = made.frame;
     let domain = gate_domain_of(gatedomains, p.segment);
     let tagged = with_tag(pointers);
     let based = with_base(tagged, stack_of(stacks, domain));
@@ -164,17 +172,11 @@ pub fn leave<'a>(
     pointers: [Pointer; 8],
     p: Pointer,
 ) -> Crossed
-    ensures { λ c. ⌜ crossedAnswer c ≡ leaveParts (now (stacks .entry)) r pointers p frame (leaveCheck (now (lengths .entry)) (now (rights .entry)) depth frame (getD pointers 1 noPointer) p) ⌝ }
+    ensures { λ c. ⌜ c ≡ crossedBy frame pointers r (leaveParts (now (stacks .entry)) r pointers p frame (leaveCheck (now (lengths .entry)) (now (rights .entry)) depth frame (getD pointers 1 noPointer) p)) ⌝ }
 {
     let number = leave_check(lengths, rights, depth, frame, pointer_at(pointers, 1), p);
     if number != 0 {
-        return Crossed {
-            frame,
-            pointers,
-            registers: r,
-            number,
-            refused: true,
-        };
+        return refuse(frame, pointers, r, number);
     }
     let restored = with_pointer(pointers, 1, frame.s);
     let based = with_base(restored, stack_of(stacks, frame.domain));

@@ -2,7 +2,7 @@
 use Prim.Native.Nat.{ℕ, _+_, _-_, _<_}
 use mathlib.Core.List.{List}
 use lib.ListN.{getD}
-use Rattle.words.specs.Answer.{Answer, refuse, ok}
+use Rattle.words.specs.Answer.{Answer, refuse, ok, if_then_else_}
 use Rattle.words.specs.declared.pointer.Pointer.{Pointer}
 use Rattle.state.specs.declared.record.Frame.{Frame}
 use Rattle.state.specs.declared.record.Registers.{Registers}
@@ -16,7 +16,12 @@ use Rattle.runs.specs.declared.outcome.End.{End}
 use Rattle.runs.specs.declared.outcome.End.the-variants as end
 use Rattle.runs.specs.declared.resume.Resumption.{Resumption}
 use Rattle.runs.specs.Run.{Ending, halted, spent, faulted, refused}
+use Rattle.crossings.specs.declared.crossing.Crossed.{Crossed}
 use Rattle.crossings.specs.Parts.{Changes, enterParts, leaveParts}
+
+-- what a crossing's answer stands for
+abbrev pub crossedAnswer : Crossed → Answer Changes
+crossedAnswer c = if c .refused then refuse (c .number) else ok (record { frame = c .frame; pointers = c .pointers; registers = c .registers })
 
 -- what a run comes to after a local run: it ends; or it goes on from a crossing, with the count, the row of its frame, the frames in use after it
 pub data Resumed : Type 0 where

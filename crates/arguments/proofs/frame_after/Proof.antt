@@ -2,7 +2,7 @@
 use borrow.Author.Needs.{needs}
 use mathlib.Core.Path.{_≡_, refl, sym, ap, _∙_}
 use Rattle.addressing.specs.Effective.{displacedBy}
-use Rattle.arguments.specs.ArgumentList.{listPointer, frameAfter, frameAnswer}
+use Rattle.arguments.specs.ArgumentList.{listPointer, frameAfter}
 use Rattle.arguments.proofs.frame_after.Statement.{statement}
 use Rattle.arguments.proofs.frame_after.Tie as tie
 
@@ -40,7 +40,7 @@ returns c =
     let b = i .before .before in
     let u = b .before .before in
     let w = u .before .before in
-    ap frameAnswer (c .refuse3 .ensures) ∙ simp (← w .before .before .list-word .ensures, w .w .given .1, ← u .unpack .ensures, b .back .given .1, i .if1 .taken)
+    c .refuse3 .ensures ∙ simp (← w .before .before .list-word .ensures, w .w .given .1, ← u .unpack .ensures, b .back .given .1, i .if1 .taken)
 
 climb-requires : tie.Need-climb-requires
 climb-requires c κs = search needs
@@ -71,7 +71,7 @@ returns-2 c =
     let b = e .before .before in
     let u = b .before .before in
     let w = u .before .before in
-    ap frameAnswer (c .refuse5 .ensures) ∙ simp (← w .before .before .list-word .ensures, w .w .given .1, ← u .unpack .ensures, b .back .given .1, e .if1 .left, ← m .climb .ensures, k .enum-told .given .1, ← g .arguments .ensures, i .if2 .taken)
+    c .refuse5 .ensures ∙ simp (← w .before .before .list-word .ensures, w .w .given .1, ← u .unpack .ensures, b .back .given .1, e .if1 .left, ← m .climb .ensures, k .enum-told .given .1, ← g .arguments .ensures, i .if2 .taken)
 
 filled-requires : tie.Need-filled-requires
 filled-requires c κs = search needs
@@ -80,7 +80,7 @@ returns-3 : tie.Need-returns-3
 unfolding listPointer frameAfter displacedBy
 returns-3 c =
     let k = c .before .before in
-    ap frameAnswer (c .refuse .ensures) ∙ simp (← k .before .before .list-word .ensures, k .number .given .1)
+    c .refuse .ensures ∙ simp (← k .before .before .list-word .ensures, k .number .given .1)
 
 returns-4 : tie.Need-returns-4
 unfolding listPointer frameAfter displacedBy
@@ -88,7 +88,7 @@ returns-4 c =
     let k = c .before .before in
     let u = k .before .before in
     let w = u .before .before in
-    ap frameAnswer (c .refuse2 .ensures) ∙ simp (← w .before .before .list-word .ensures, w .w .given .1, ← u .unpack .ensures, k .number2 .given .1)
+    c .refuse2 .ensures ∙ simp (← w .before .before .list-word .ensures, w .w .given .1, ← u .unpack .ensures, k .number2 .given .1)
 
 returns-5 : tie.Need-returns-5
 unfolding listPointer frameAfter displacedBy
@@ -99,7 +99,7 @@ returns-5 c =
     let b = e .before .before in
     let u = b .before .before in
     let w = u .before .before in
-    ap frameAnswer (c .refuse4 .ensures) ∙ simp (← w .before .before .list-word .ensures, w .w .given .1, ← u .unpack .ensures, b .back .given .1, e .if1 .left, ← m .climb .ensures, k .number3 .given .1)
+    c .refuse4 .ensures ∙ simp (← w .before .before .list-word .ensures, w .w .given .1, ← u .unpack .ensures, b .back .given .1, e .if1 .left, ← m .climb .ensures, k .number3 .given .1)
 
 returns-6 : tie.Need-returns-6
 unfolding listPointer frameAfter displacedBy

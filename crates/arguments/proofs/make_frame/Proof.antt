@@ -4,7 +4,7 @@ use mathlib.Core.Path.{_≡_, refl, sym, ap, _∙_}
 use Prim.Native.Nat.{_%_}
 use native.Mathlib.Omega.{arith}
 use borrow.Author.Tests.{le-leb, lt-leb}
-use Rattle.arguments.specs.ArgumentList.{frameOf, frameAnswer}
+use Rattle.arguments.specs.ArgumentList.{frameOf}
 use Rattle.arguments.proofs.make_frame.Statement.{statement}
 use Rattle.arguments.proofs.make_frame.Tie as tie
 
@@ -28,7 +28,7 @@ unfolding frameOf
 returns c =
     let i = c .before in
     let w = i .before .before in
-    ap frameAnswer (c .refuse2 .ensures) ∙ simp (← w .before .before .list-word .ensures, w .w .given .1, lt-leb _ _ (i .if1 .taken))
+    c .refuse2 .ensures ∙ simp (← w .before .before .list-word .ensures, w .w .given .1, lt-leb _ _ (i .if1 .taken))
 
 cast-n : tie.Need-cast-n
 cast-n c = search needs
@@ -44,7 +44,7 @@ returns-2 : tie.Need-returns-2
 unfolding frameOf
 returns-2 c =
     let k = c .before .before in
-    ap frameAnswer (c .refuse .ensures) ∙ simp (← k .before .before .list-word .ensures, k .number .given .1)
+    c .refuse .ensures ∙ simp (← k .before .before .list-word .ensures, k .number .given .1)
 
 returns-3 : tie.Need-returns-3
 unfolding frameOf

@@ -1,16 +1,10 @@
+-- `crossings::crossing::leave` meets its contract.
+use mathlib.Core.Path.{_∙_}
 use borrow.Author.Needs.{needs}
 use borrow.Author.Tests.{eq-eqb, ne-eqb}
+use Rattle.crossings.specs.Parts.{crossedBy}
 use Rattle.crossings.proofs.crossing.leave.Statement.{statement}
 use Rattle.crossings.proofs.crossing.leave.Tie as tie
-use Rattle.crossings.proofs.crossing.leave.Reads as reads
-use Rattle.crossings.proofs.crossing.leave.Lts as lts
-use Rattle.crossings.proofs.crossing.at_place.Reads as at-place-reads
-use Rattle.state.proofs.frames.free_frame.Reads as free-frame-reads
-use Rattle.crossings.proofs.crossing.leave_check.Reads as leave-check-reads
-use Rattle.pointer_registers.proofs.pointer_at.Reads as pointer-at-reads
-use Rattle.pointer_registers.proofs.stack_of.Reads as stack-of-reads
-use Rattle.pointer_registers.proofs.with_base.Reads as with-base-reads
-use Rattle.pointer_registers.proofs.with_pointer.Reads as with-pointer-reads
 
 pointer-at-requires : tie.Need-pointer-at-requires
 pointer-at-requires c κs = search needs
@@ -18,10 +12,15 @@ pointer-at-requires c κs = search needs
 leave-check-requires : tie.Need-leave-check-requires
 leave-check-requires c κs = search needs
 
+refuse-requires : tie.Need-refuse-requires
+refuse-requires c κs = search needs
+
 returns : tie.Need-returns
+unfolding crossedBy
 returns c =
-    let l = c .before in
-    simp (← l .before .pointer-at .ensures, ← l .leave-check .ensures, ne-eqb _ _ (c .if1 .taken))
+    let i = c .before in
+    let l = i .before in
+    c .refuse .ensures ∙ simp (← l .before .pointer-at .ensures, ← l .leave-check .ensures, ne-eqb _ _ (i .if1 .taken))
 
 with-pointer-requires : tie.Need-with-pointer-requires
 with-pointer-requires c κs = search needs
@@ -39,6 +38,7 @@ free-frame-requires : tie.Need-free-frame-requires
 free-frame-requires c κs = search needs
 
 returns-2 : tie.Need-returns-2
+unfolding crossedBy
 returns-2 c =
     let g = c .before in
     let b = g .before in
@@ -54,6 +54,7 @@ leave-spec =
     (tie.spec
     pointer-at-requires
     leave-check-requires
+    refuse-requires
     returns
     with-pointer-requires
     stack-of-requires

@@ -2,13 +2,15 @@
 use Prim.Native.Nat.{ℕ}
 use native.Mathlib.Omega.{arith}
 use mathlib.Core.List.{List}
-use mathlib.Core.Path.{_≡_, sym, subst, ap, _∙_}
+use mathlib.Core.Path.{_≡_, refl, sym, subst, ap, _∙_}
 use borrow.Author.Needs.{needs}
+use Rattle.words.specs.Answer.{Answer, refuse, ok}
 use Rattle.words.specs.declared.pointer.Pointer.{Pointer}
 use Rattle.state.specs.declared.record.Frame.{Frame}
 use Rattle.state.specs.declared.record.Registers.{Registers}
 use Rattle.instructions.specs.declared.cycle.Event.{Event}
-use Rattle.runs.specs.Private.{Countable, resumeAnswer, resumeAfter, resumeOf}
+use Rattle.crossings.specs.Parts.{Changes, crossedBy}
+use Rattle.runs.specs.Private.{crossedAnswer, Countable, resumeAnswer, resumeAfter, resumeOf}
 use Rattle.runs.proofs.resume.resume.Statement.{statement}
 use Rattle.runs.proofs.resume.resume.Tie as tie
 
@@ -20,6 +22,12 @@ told lengths rights bases gatedomains stacks words depth frame r pointers n h = 
 -- what may be counted at an event that is known to be another
 counts : (n : ℕ) {e x : Event} → e ≡ x → Countable n e → Countable n x
 counts n h c = subst (Countable n) h c
+
+-- what the answer of a crossing stands for
+answers : (frame : Frame) (pointers : List Pointer) (r : Registers) (changes : Answer Changes) → crossedAnswer (crossedBy frame pointers r changes) ≡ changes
+unfolding crossedBy
+answers frame pointers r (refuse n) = refl
+answers frame pointers r (ok c) = refl
 
 enum-known-event : tie.Need-enum-known-event
 enum-known-event c = search needs
@@ -75,13 +83,13 @@ stop-requires-4 c κs = search needs
 returns : tie.Need-returns
 returns c =
     let e = c .before in
-    c .resume-crossed .ensures ∙ ap (resumeAfter _ _ _ _ _) (e .enter .ensures) ∙ told _ _ _ _ _ _ _ _ _ _ _ (e .before .before .event .given .1)
+    c .resume-crossed .ensures ∙ ap (resumeAfter _ _ _ _ _) (ap crossedAnswer (e .enter .ensures) ∙ answers _ _ _ _) ∙ told _ _ _ _ _ _ _ _ _ _ _ (e .before .before .event .given .1)
 
 returns-2 : tie.Need-returns-2
 returns-2 c =
     let b = c .before in
     let e = b .before in
-    rw (b .below .ensures) at (c .resume-crossed2 .ensures) ∙ ap (resumeAfter _ _ _ _ _) (e .leave .ensures) ∙ told _ _ _ _ _ _ _ _ _ _ _ (e .before .before .event2 .given .1)
+    rw (b .below .ensures) at (c .resume-crossed2 .ensures) ∙ ap (resumeAfter _ _ _ _ _) (ap crossedAnswer (e .leave .ensures) ∙ answers _ _ _ _) ∙ told _ _ _ _ _ _ _ _ _ _ _ (e .before .before .event2 .given .1)
 
 returns-3 : tie.Need-returns-3
 returns-3 c = ap resumeAnswer (c .stop .ensures) ∙ told _ _ _ _ _ _ _ _ _ _ _ (c .before .enum-told .given .1)
