@@ -1,5 +1,6 @@
 // The live check (dynamic access validation), and arguments that are passed on.
 ghost use mathlib.Core.Path.{_≡_};
+ghost use Prim.Native.Nat.{_≤_};
 ghost use Rattle.references.specs.Live.{liveOf, passedOf, sourceAnswer};
 ghost use Rattle.references.specs.Flag.{isRead};
 ghost use Rattle.references.specs.Private.{codeAnswer};
@@ -7,7 +8,7 @@ use crate::flag::Access;
 use crate::flag::asked;
 use crate::statics::static_check;
 use capabilities::CapabilityAnswer;
-use capabilities::search;
+use slice_search::search;
 use state::record::Frame;
 
 // What passing an argument on gives: the source of the capability that covers it, or the refusal 24.
@@ -36,6 +37,7 @@ fn source_of(
     write: bool,
 ) -> u16
     ensures { λ r. ⌜ codeAnswer r ≡ passedOf depth frame segment word length read write ⌝ }
+    ensures { λ r. ⌜ r ≤ 256 ⌝ }
 {
     if depth == 0 {
         return 256;

@@ -15,7 +15,7 @@ source-of-requires c κs = search needs
 returns : tie.Need-returns
 returns c =
     let s = c .before in
-    simp (live-passed, ← s .before .is-read .ensures, ← s .source-of .ensures, code-none _ (c .if1 .taken))
+    simp (live-passed, ← s .before .is-read .ensures, ← s .source-of .ensures .0, code-none _ (c .if1 .taken))
 
 cast-static-check : tie.Need-cast-static-check
 cast-static-check c = search needs
@@ -32,7 +32,7 @@ returns-2 c =
     let e = k .before .before in
     let s = e .before in
     let h = rw (mod-eq-of-lt (e .if1 .left)) at (k .static-check .ensures) in
-    simp (live-passed, ← s .before .is-read .ensures, ← s .source-of .ensures, code-source _ (e .if1 .left), ← k .before .asked .ensures, ← h, eq-eqb _ _ (c .if2 .taken))
+    simp (live-passed, ← s .before .is-read .ensures, ← s .source-of .ensures .0, code-source _ (e .if1 .left), ← k .before .asked .ensures, ← h, eq-eqb _ _ (c .if2 .taken))
 
 returns-3 : tie.Need-returns-3
 returns-3 c =
@@ -40,7 +40,7 @@ returns-3 c =
     let e = k .before .before in
     let s = e .before in
     let h = rw (mod-eq-of-lt (e .if1 .left)) at (k .static-check .ensures) in
-    simp (live-passed, ← s .before .is-read .ensures, ← s .source-of .ensures, code-source _ (e .if1 .left), ← k .before .asked .ensures, ← h, ne-eqb _ _ (c .if2 .left))
+    simp (live-passed, ← s .before .is-read .ensures, ← s .source-of .ensures .0, code-source _ (e .if1 .left), ← k .before .asked .ensures, ← h, ne-eqb _ _ (c .if2 .left))
 
 pub live-check-spec : {M : Type 1} → statement M
 live-check-spec =
