@@ -27,15 +27,15 @@ use Rattle.references.specs.Check.{check}
 use Rattle.record_checks.specs.Judged.{judgedCheck}
 use Rattle.memory.specs.Reader.{readOf, fetchOf, readWord, fetch}
 use Rattle.addressing.specs.Effective.{displacedBy, throughOf, effectiveOf}
-use Rattle.transfers.specs.Transfer.{callWay}
-use Rattle.instructions.specs.Instruction.{callOf, loadOf, isLoad, isStore, valueOf, takenOf, effectOf, executeOf, planOf}
+use Rattle.transfers.specs.Transfer.{jumpCheck, callWay}
+use Rattle.instructions.specs.Instruction.{jumpOf, callOf, loadOf, branchOf, isLoad, isStore, valueOf, takenOf, effectOf, executeOf, planOf}
 use Rattle.arguments.specs.ArgumentList.{listWord, sourceOf, capabilityOf, listPointer, argumentOf, argumentsFrom, frameAfter, frameOf}
 use Rattle.crossings.specs.Crossing.{entered, enterOf}
 use Rattle.runs.specs.Step.{decide, commit, execute}
 use Rattle.runs.specs.Run.{runFrom, judged, calledOf}
 use Rattle.processor.specs.Calls.{runCall}
-use Rattle.readings.specs.Question.{answer}
-use Rattle.readings.specs.Table.{Row, table}
+use Rattle.readings.specs.Question.{answer, Row}
+use Rattle.readings.specs.Table.{table}
 use Rattle.readings.specs.Statements.{Readings}
 
 abbrev both : Bool → Bool → Bool
@@ -90,6 +90,6 @@ unfolding field common pointerOf signedOf displacedOf literalOf instructionOf
     capabilityTest emptyCapability emptyPointer emptyFrame frameTest framesTest soundTest
     has exists rightsOf staticOf coversOf firstOf liveMatch liveOf passedOf verdictOf locateOf referenceOf check judgedCheck
     sumOf differenceOf readOf fetchOf readWord fetch displacedBy throughOf effectiveOf
-    callWay callOf loadOf isLoad isStore valueOf takenOf effectOf executeOf planOf modeOf listWord sourceOf capabilityOf listPointer argumentOf argumentsFrom frameAfter frameOf
+    jumpCheck callWay jumpOf callOf loadOf branchOf isLoad isStore valueOf takenOf effectOf executeOf planOf modeOf listWord sourceOf capabilityOf listPointer argumentOf argumentsFrom frameAfter frameOf
     entered enterOf decide commit execute runFrom judged calledOf runCall
 readings = each table refl

@@ -1,4 +1,8 @@
 pub mod Scene
+pub mod Change
 pub mod Question
+pub mod Word
+pub mod Gate
+pub mod Border
 pub mod Table
 pub mod Statements

@@ -16,7 +16,8 @@ use Rattle.references.specs.Live.{passedOf}
 use Rattle.record_checks.specs.Judged.{judgedCheck}
 use Rattle.runs.specs.Run.{Ran, Ending, halted, spent, crossed, faulted, refused}
 use Rattle.processor.specs.Calls.{runCall}
-use Rattle.readings.specs.Scene.{Scene, machineOf, startOf, sceneMemory}
+use Rattle.readings.specs.Scene.{Scene, machineOf, sceneMemory}
+use Rattle.readings.specs.Change.{startOf}
 
 pub data Question : Type 0 where
   pointer : ℕ → Question
@@ -25,7 +26,11 @@ pub data Question : Type 0 where
   reading : Scene → Pointer → Question
   writing : Scene → Pointer → Question
   passing : Scene → Pointer → ℕ → Bool → Bool → Question
-  executing : Scene → ℕ → Pointer → List ℕ → Question
+  running : ℕ → Machine → List ℕ → Question
+
+-- one instruction of a scene's machine with this A and this pointer in register 0, over a memory that begins with these words
+abbrev pub executing : Scene → ℕ → Pointer → List ℕ → Question
+executing s a p words = running 1 (startOf s a p) (sceneMemory words)
 
 -- passing an argument on from the live frame of a machine
 abbrev passed : Machine → Pointer → ℕ → Bool → Bool → Answer ℕ
@@ -56,5 +61,15 @@ answer (reading s p) = judgedCheck (machineOf s) access.Read p >>= (λ i. ok (i 
 answer (writing s p) = judgedCheck (machineOf s) access.Write p >>= (λ i. ok (i ∷ []))
 -- the source
 answer (passing s p length read write) = passed (machineOf s) p length read write >>= (λ d. ok (d ∷ []))
--- A after one instruction
-answer (executing s a p words) = lastA (runCall 1 (startOf s a p) (sceneMemory words))
+-- A after at most so many instructions
+answer (running limit m words) = lastA (runCall limit m words)
+
+-- a question and the answer that is due
+pub record Row : Type 0 where
+  pub asked : Question
+  pub due : Answer (List ℕ)
+
+abbrev pub _gives_ : Question → Answer (List ℕ) → Row
+q gives a = record { asked = q; due = a }
+
+infix 4 _gives_

@@ -1,14 +1,14 @@
 -- Small machines for the readings: a few segments and domains, and at most one frame.
 use Prim.Native.Nat.{ℕ}
-use mathlib.Core.Bool.{true, false}
+use mathlib.Core.Bool.{Bool, true, false}
 use mathlib.Core.List.{List, [], _∷_, _++_}
-use lib.ListN.{length, take, replicate, set}
+use lib.ListN.{length, take, replicate}
 use Rattle.words.specs.declared.pointer.Pointer.{Pointer}
 use Rattle.state.specs.declared.record.Layout.{Layout}
 use Rattle.state.specs.declared.record.Capability.{Capability}
 use Rattle.state.specs.declared.record.Frame.{Frame}
 use Rattle.state.specs.declared.record.Machine.{Machine}
-use Rattle.state.specs.Record.{noPointer, noCapability}
+use Rattle.state.specs.Record.{noPointer, noCapability, freeFrame}
 use Rattle.fresh.specs.Fresh.{freshOf}
 
 -- the segments' lengths and gate counts, for each domain its rights on them, and the capabilities of the live frame; domain 0 executes, and gates lead into it
@@ -25,15 +25,19 @@ untaggedTo segment word = record { word = word; segment = segment; tag = false }
 abbrev pub taggedTo : ℕ → ℕ → Pointer
 taggedTo segment word = record { word = word; segment = segment; tag = true }
 
--- segment, first word, number of words, source
+-- segment, first word, number of words, source, flags
+abbrev pub grant : ℕ → ℕ → ℕ → ℕ → Bool → Bool → Capability
+grant segment word length source read write =
+    record { word = word; length = length; segment = segment; source = source; read = read; write = write }
+
 abbrev pub readOn : ℕ → ℕ → ℕ → ℕ → Capability
-readOn segment word length source = record { word = word; length = length; segment = segment; source = source; read = true; write = false }
+readOn segment word length source = grant segment word length source true false
 
 abbrev pub writeOn : ℕ → ℕ → ℕ → ℕ → Capability
-writeOn segment word length source = record { word = word; length = length; segment = segment; source = source; read = false; write = true }
+writeOn segment word length source = grant segment word length source false true
 
 -- as many as an array holds
-abbrev fill : {A : Type 0} → ℕ → A → List A → List A
+abbrev pub fill : {A : Type 0} → ℕ → A → List A → List A
 fill n d xs = take n (xs ++ replicate n d)
 
 abbrev rows : List (List ℕ) → List ℕ
@@ -53,35 +57,30 @@ sceneLayout s =
       domains = length (s .rights);
     }
 
-abbrev sceneFrame : List Capability → Frame
-sceneFrame cs = record { capabilities = fill 9 noCapability cs; s = noPointer; back = noPointer; count = length cs; domain = 0 }
+-- a frame of this count with these capabilities, this s, this return location and this calling domain
+abbrev pub frameWith : ℕ → List Capability → Pointer → Pointer → ℕ → Frame
+frameWith count cs s back domain = record { capabilities = fill 9 noCapability cs; s = s; back = back; count = count; domain = domain }
 
--- a machine with a frame of these capabilities, if there are any
-abbrev sceneFramed : Machine → List Capability → Machine
-sceneFramed m [] = m
-sceneFramed m (c ∷ cs) =
-    record {
-      layout = m .layout;
-      registers = m .registers;
-      pointers = m .pointers;
-      frames = set (m .frames) 0 (sceneFrame (c ∷ cs));
-      depth = 1;
-    }
+-- a frame of all these capabilities
+abbrev pub sceneFrame : List Capability → Frame
+sceneFrame cs = frameWith (length cs) cs noPointer noPointer 0
+
+-- a frame of one capability
+abbrev pub lending : Frame
+lending = sceneFrame (readOn 0 0 1 0 ∷ [])
+
+-- the machine with these frames in use
+abbrev pub inFrames : List Frame → Machine → Machine
+inFrames fs m =
+    record { layout = m .layout; registers = m .registers; pointers = m .pointers; frames = fill 8 freeFrame fs; depth = length fs }
+
+-- a frame, if there are any capabilities
+abbrev sceneFrames : List Capability → List Frame
+sceneFrames [] = []
+sceneFrames (c ∷ cs) = sceneFrame (c ∷ cs) ∷ []
 
 abbrev pub machineOf : Scene → Machine
-machineOf s = sceneFramed (freshOf (sceneLayout s)) (s .capabilities)
-
--- the machine of a scene with this A and this pointer in register 0; its instruction is at word 0 of segment 0
-abbrev pub startOf : Scene → ℕ → Pointer → Machine
-startOf s a p =
-    let m = machineOf s in
-    record {
-      layout = m .layout;
-      registers = record { a = a; word = m .registers .word; segment = m .registers .segment; domain = m .registers .domain };
-      pointers = set (m .pointers) 0 p;
-      frames = m .frames;
-      depth = m .depth;
-    }
+machineOf s = inFrames (sceneFrames (s .capabilities)) (freshOf (sceneLayout s))
 
 -- a memory that begins with these words
 abbrev pub sceneMemory : List ℕ → List ℕ

@@ -1,8 +1,8 @@
 -- What is proved of the readings; the proof stands in proofs/Hold.antt.
 use mathlib.Core.List.{List·Memᴰ}
 use mathlib.Core.Path.{_≡_}
-use Rattle.readings.specs.Question.{answer}
-use Rattle.readings.specs.Table.{Row, table}
+use Rattle.readings.specs.Question.{answer, Row}
+use Rattle.readings.specs.Table.{table}
 
 -- every question of the table has the answer that is due
 abbrev pub Readings : Type 0

@@ -1,21 +1,16 @@
--- The readings that the paper marks to be proved: a question and its answer a row.
+-- The readings that the paper marks to be proved, and the borders of its ranges: a question and its answer a row.
 use Prim.Native.Nat.{ℕ}
 use mathlib.Core.Bool.{true}
 use mathlib.Core.List.{List, [], _∷_, _++_}
 use lib.IntN.{pos, negsuc}
 use lib.ListN.{replicate}
-use Rattle.words.specs.Answer.{Answer, refuse, ok}
+use Rattle.words.specs.Answer.{refuse, ok}
 use Rattle.readings.specs.Scene.{Scene, untaggedTo, taggedTo, readOn, writeOn}
-use Rattle.readings.specs.Question.{Question, pointer, instruction, displace, reading, writing, passing, executing}
+use Rattle.readings.specs.Question.{Row, pointer, instruction, displace, reading, writing, passing, executing, _gives_}
+use Rattle.readings.specs.Word.{wordRows}
+use Rattle.readings.specs.Gate.{callOn, gateRows}
+use Rattle.readings.specs.Border.{borders}
 
-pub record Row : Type 0 where
-  pub asked : Question
-  pub due : Answer (List ℕ)
-
-abbrev _gives_ : Question → Answer (List ℕ) → Row
-q gives a = record { asked = q; due = a }
-
-infix 4 _gives_
 -- a segment of 10 words, on which the domain has the rights r
 abbrev tenWords : ℕ → Scene
 tenWords r = record { lengths = 10 ∷ []; gates = []; rights = (r ∷ []) ∷ []; capabilities = [] }
@@ -44,9 +39,9 @@ readAndWrite =
       capabilities = readOn 2 4 4 1 ∷ writeOn 2 4 4 1 ∷ [];
     }
 
--- CALL through that gate with one argument, words 4-7 of segment 2, that has this mode word; the list is at word 2
+-- CALL through that gate with one argument, words 4-7 of segment 2, that has this mode word
 abbrev callWith : ℕ → List ℕ
-callWith mode = 0x0800B001 ∷ 0x00001000 ∷ 1 ∷ 0 ∷ 0 ∷ 0x80002004 ∷ mode ∷ []
+callWith mode = callOn 0x00001000 1 0x80002004 mode
 
 -- a segment of n words that the domain may read and execute
 abbrev program : ℕ → Scene
@@ -69,7 +64,11 @@ table =
     (displace 4095 (pos 1) gives refuse 23) ∷
     (displace 0 (negsuc 0) gives refuse 23) ∷
     (reading (tenWords 1) (untaggedTo 0 9) gives ok (9 ∷ [])) ∷
-    (reading (tenWords 0) (untaggedTo 0 9) gives refuse 22) ∷
+    (reading (tenWords 14) (untaggedTo 0 9) gives refuse 22) ∷
+    (writing (tenWords 2) (untaggedTo 0 9) gives ok (9 ∷ [])) ∷
+    (writing (tenWords 13) (untaggedTo 0 9) gives refuse 22) ∷
+    (executing (tenWords 4) 0 (untaggedTo 0 0) (0x0C000001 ∷ []) gives ok (1 ∷ [])) ∷
+    (executing (tenWords 11) 0 (untaggedTo 0 0) (0x0C000001 ∷ []) gives refuse 22) ∷
     (reading fourWords (taggedTo 3 4) gives ok (18 ∷ [])) ∷
     (reading fourWords (taggedTo 3 7) gives ok (21 ∷ [])) ∷
     (reading fourWords (taggedTo 3 3) gives refuse 24) ∷
@@ -95,4 +94,7 @@ table =
     (executing readAndWrite 7 (untaggedTo 0 2) (callWith 0x40000004) gives ok (7 ∷ [])) ∷
     underRights (λ r. executing (tenBeside r) 0 (untaggedTo 1 10) (0x01000000 ∷ []) gives refuse 21) ++
     underRights (λ r. reading (tenWords r) (untaggedTo 0 10) gives refuse 21) ++
-    underRights (λ r. writing (tenWords r) (untaggedTo 0 10) gives refuse 21)
+    underRights (λ r. writing (tenWords r) (untaggedTo 0 10) gives refuse 21) ++
+    wordRows ++
+    gateRows ++
+    borders

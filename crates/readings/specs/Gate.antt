@@ -1,0 +1,80 @@
+-- Fetches, jumps and calls through a gate: the borders of their checks.
+use Prim.Native.Nat.{ℕ, zero, suc, _+_}
+use mathlib.Core.List.{List, [], _∷_, _++_}
+use lib.ListN.{replicate}
+use Rattle.words.specs.Answer.{refuse, ok}
+use Rattle.state.specs.declared.record.Machine.{Machine}
+use Rattle.readings.specs.Scene.{untaggedTo, fill, lending, inFrames, machineOf, sceneMemory}
+use Rattle.readings.specs.Change.{gatedomainTo, rightTo, relaid, holdingA, locatedAt, pointing}
+use Rattle.readings.specs.Question.{Question, Row, running, _gives_}
+use Rattle.readings.specs.Word.{eachBit}
+
+-- so many arguments of this pointer word and this mode word
+abbrev arguments : ℕ → ℕ → ℕ → List ℕ
+arguments zero p mode = []
+arguments (suc n) p mode = p ∷ mode ∷ arguments n p mode
+
+-- CALL through the pointer word behind it, with n such arguments; the list is at word 2
+abbrev pub callOn : ℕ → ℕ → ℕ → ℕ → List ℕ
+callOn gate n p mode = 0x0800B001 ∷ gate ∷ n ∷ 0 ∷ 0 ∷ arguments n p mode
+
+-- domain 0 may read and execute 40 words, and call segment 1, whose first of two words is a gate into domain 1, which may execute them
+abbrev caller : Machine
+caller =
+    relaid (gatedomainTo 1 1) (pointing 0 (untaggedTo 0 2)
+    (machineOf (record { lengths = 40 ∷ 2 ∷ []; gates = 0 ∷ 1 ∷ []; rights = (5 ∷ 8 ∷ []) ∷ (0 ∷ 4 ∷ []) ∷ []; capabilities = [] })))
+
+-- a call of the gate with n arguments; with one
+abbrev callMany : ℕ → List ℕ
+callMany n = callOn 0x00001000 n 0 0x40000001
+
+abbrev callOne : ℕ → ℕ → List ℕ
+callOne p mode = callOn 0x00001000 1 p mode
+
+-- the call, by a machine
+abbrev calling : Machine → List ℕ → Question
+calling m words = running 1 m (sceneMemory words)
+
+-- a call with n arguments, then the called domain's LOAD of word k of the list
+abbrev listWordOf : ℕ → ℕ → Question
+listWordOf n k = running 2 caller (sceneMemory (fill 40 0 (callMany n) ++ (0x01000000 + k) ∷ []))
+
+-- two segments of all the words there are, which the domain may execute
+abbrev longest : Machine
+longest = machineOf (record { lengths = 4096 ∷ 4096 ∷ []; gates = []; rights = (4 ∷ 4 ∷ []) ∷ []; capabilities = [] })
+
+-- after a jump to word 2 A is 2, else 1
+abbrev jumping : ℕ → ℕ → Question
+jumping a jump =
+    running 2 (holdingA a (machineOf (record { lengths = 3 ∷ []; gates = []; rights = (4 ∷ []) ∷ []; capabilities = [] })))
+    (sceneMemory (jump ∷ 0x0C000001 ∷ 0x0C000002 ∷ []))
+
+abbrev pub gateRows : List Row
+gateRows =
+    (running 0 caller (replicate 8192 0) gives ok (0 ∷ [])) ∷
+    (running 0 caller (replicate 8191 0) gives refuse 7) ∷
+    (running 1 (locatedAt 0 4095 0 longest) (sceneMemory []) gives ok (0 ∷ [])) ∷
+    (running 1 (locatedAt 0 4096 0 longest) (sceneMemory []) gives refuse 21) ∷
+    (running 2 (locatedAt 0 4095 0 longest) (replicate 4095 0 ++ sceneMemory (0x0C000001 ∷ [])) gives refuse 21) ∷
+    (jumping 0 0x0A003002 gives ok (2 ∷ [])) ∷
+    (jumping 1 0x0A003002 gives ok (1 ∷ [])) ∷
+    (jumping 0x80000000 0x0B003002 gives ok (2 ∷ [])) ∷
+    (jumping 0x7FFFFFFF 0x0B003002 gives ok (1 ∷ [])) ∷
+    (calling caller (callMany 8) gives ok (0 ∷ [])) ∷
+    (calling caller (callMany 9) gives refuse 30) ∷
+    (calling (inFrames (replicate 7 lending) caller) (callMany 0) gives ok (0 ∷ [])) ∷
+    (calling (inFrames (replicate 8 lending) caller) (callMany 0) gives refuse 31) ∷
+    (calling caller (callOn 0x00001001 0 0 0) gives refuse 29) ∷
+    (calling (relaid (rightTo 1 3) caller) (callMany 0) gives refuse 22) ∷
+    (listWordOf 0 2 gives ok (0 ∷ [])) ∷
+    (listWordOf 0 3 gives refuse 24) ∷
+    (listWordOf 8 18 gives ok (0x40000001 ∷ [])) ∷
+    (listWordOf 8 19 gives refuse 24) ∷
+    (calling caller (callOne 0 0x40000000) gives refuse 30) ∷
+    (calling caller (callOne 0 0x40001000) gives ok (0 ∷ [])) ∷
+    (calling caller (callOne 0 0x40001001) gives refuse 30) ∷
+    (calling caller (callOne 0x00000001 0x40001000) gives refuse 30) ∷
+    (calling caller (callOne 0x00000FFF 0x80000001) gives ok (0 ∷ [])) ∷
+    (calling caller (callOne 0x00000FFF 0x80000002) gives refuse 30) ∷
+    (calling caller (callOne 0 0x00000001) gives refuse 30) ∷
+    eachBit 13 17 (λ b. calling caller (callOne 0 (0x40000001 + b)) gives refuse 30)
