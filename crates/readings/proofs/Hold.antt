@@ -10,7 +10,7 @@ use lib.Dec.{eqb}
 use Rattle.words.specs.Answer.{Answer, refuse, ok, if_then_else_}
 use Rattle.words.specs.Field.{field, common}
 use Rattle.words.specs.Arithmetic.{sumOf, differenceOf}
-use Rattle.words.specs.PointerWord.{pointerOf}
+use Rattle.words.specs.PointerWord.{pointerWord, pointerOf}
 use Rattle.words.specs.Offset.{signedOf, displacedOf, literalOf}
 use Rattle.words.specs.InstructionWord.{instructionOf}
 use Rattle.words.specs.ModeWord.{modeOf}
@@ -28,9 +28,9 @@ use Rattle.record_checks.specs.Judged.{judgedCheck}
 use Rattle.memory.specs.Reader.{readOf, fetchOf, readWord, fetch}
 use Rattle.addressing.specs.Effective.{displacedBy, throughOf, effectiveOf}
 use Rattle.transfers.specs.Transfer.{jumpCheck, callWay}
-use Rattle.instructions.specs.Instruction.{jumpOf, callOf, loadOf, branchOf, isLoad, isStore, valueOf, takenOf, effectOf, executeOf, planOf}
+use Rattle.instructions.specs.Instruction.{jumpOf, callOf, returnOf, loadOf, branchOf, isLoad, isStore, valueOf, takenOf, effectOf, executeOf, planOf}
 use Rattle.arguments.specs.ArgumentList.{listWord, sourceOf, capabilityOf, listPointer, argumentOf, argumentsFrom, frameAfter, frameOf}
-use Rattle.crossings.specs.Crossing.{entered, enterOf}
+use Rattle.crossings.specs.Crossing.{entered, left, enterOf, leaveCheck, leaveOf}
 use Rattle.runs.specs.Step.{decide, commit, execute}
 use Rattle.runs.specs.Run.{runFrom, judged, calledOf}
 use Rattle.processor.specs.Calls.{runCall}
@@ -85,11 +85,11 @@ each (q ∷ rs) e r m =
     ⊎-elim (λ (p : r ≡ q). rw p (same-answer _ _ (t .0))) (λ n. each rs (t .1) r n) (List·Memᴰ·cases-cons m)
 
 pub readings : Readings
-unfolding field common pointerOf signedOf displacedOf literalOf instructionOf
+unfolding field common pointerWord pointerOf signedOf displacedOf literalOf instructionOf
     baseOf basesOf freshOf allFrom segmentTest stackTest rightsTest startTest layoutTest registersTest pointerTest pointersTest
     capabilityTest emptyCapability emptyPointer emptyFrame frameTest framesTest soundTest
     has exists rightsOf staticOf coversOf firstOf liveMatch liveOf passedOf verdictOf locateOf referenceOf check judgedCheck
     sumOf differenceOf readOf fetchOf readWord fetch displacedBy throughOf effectiveOf
-    jumpCheck callWay jumpOf callOf loadOf branchOf isLoad isStore valueOf takenOf effectOf executeOf planOf modeOf listWord sourceOf capabilityOf listPointer argumentOf argumentsFrom frameAfter frameOf
-    entered enterOf decide commit execute runFrom judged calledOf runCall
+    jumpCheck callWay jumpOf callOf returnOf loadOf branchOf isLoad isStore valueOf takenOf effectOf executeOf planOf modeOf listWord sourceOf capabilityOf listPointer argumentOf argumentsFrom frameAfter frameOf
+    entered left enterOf leaveCheck leaveOf decide commit execute runFrom judged calledOf runCall
 readings = each table refl

@@ -1,11 +1,11 @@
--- Fetches, jumps and calls through a gate: the borders of their checks.
+-- Fetches and calls through a gate: the borders of their checks.
 use Prim.Native.Nat.{ℕ, zero, suc, _+_}
 use mathlib.Core.List.{List, [], _∷_, _++_}
 use lib.ListN.{replicate}
 use Rattle.words.specs.Answer.{refuse, ok}
 use Rattle.state.specs.declared.record.Machine.{Machine}
-use Rattle.readings.specs.Scene.{untaggedTo, fill, lending, inFrames, machineOf, sceneMemory}
-use Rattle.readings.specs.Change.{gatedomainTo, rightTo, relaid, holdingA, locatedAt, pointing}
+use Rattle.readings.specs.Scene.{untaggedTo, taggedTo, fill, lending, inFrames, machineOf, sceneMemory}
+use Rattle.readings.specs.Change.{gatedomainTo, rightTo, relaid, locatedAt, pointing}
 use Rattle.readings.specs.Question.{Question, Row, running, _gives_}
 use Rattle.readings.specs.Word.{eachBit}
 
@@ -39,27 +39,23 @@ calling m words = running 1 m (sceneMemory words)
 abbrev listWordOf : ℕ → ℕ → Question
 listWordOf n k = running 2 caller (sceneMemory (fill 40 0 (callMany n) ++ (0x01000000 + k) ∷ []))
 
+-- a call with word 39 as an argument of this mode word, then an instruction of the called domain through register 4, which points there
+abbrev argumentUsed : ℕ → ℕ → Question
+argumentUsed mode w =
+    running 2 (relaid (rightTo 0 7) (pointing 4 (taggedTo 0 39) caller)) (sceneMemory (fill 40 0 (callOne 39 mode) ++ w ∷ []))
+
 -- two segments of all the words there are, which the domain may execute
 abbrev longest : Machine
 longest = machineOf (record { lengths = 4096 ∷ 4096 ∷ []; gates = []; rights = (4 ∷ 4 ∷ []) ∷ []; capabilities = [] })
-
--- after a jump to word 2 A is 2, else 1
-abbrev jumping : ℕ → ℕ → Question
-jumping a jump =
-    running 2 (holdingA a (machineOf (record { lengths = 3 ∷ []; gates = []; rights = (4 ∷ []) ∷ []; capabilities = [] })))
-    (sceneMemory (jump ∷ 0x0C000001 ∷ 0x0C000002 ∷ []))
 
 abbrev pub gateRows : List Row
 gateRows =
     (running 0 caller (replicate 8192 0) gives ok (0 ∷ [])) ∷
     (running 0 caller (replicate 8191 0) gives refuse 7) ∷
+    (running 0 (locatedAt 16 0 0 caller) (replicate 8191 0) gives refuse 9) ∷
     (running 1 (locatedAt 0 4095 0 longest) (sceneMemory []) gives ok (0 ∷ [])) ∷
     (running 1 (locatedAt 0 4096 0 longest) (sceneMemory []) gives refuse 21) ∷
     (running 2 (locatedAt 0 4095 0 longest) (replicate 4095 0 ++ sceneMemory (0x0C000001 ∷ [])) gives refuse 21) ∷
-    (jumping 0 0x0A003002 gives ok (2 ∷ [])) ∷
-    (jumping 1 0x0A003002 gives ok (1 ∷ [])) ∷
-    (jumping 0x80000000 0x0B003002 gives ok (2 ∷ [])) ∷
-    (jumping 0x7FFFFFFF 0x0B003002 gives ok (1 ∷ [])) ∷
     (calling caller (callMany 8) gives ok (0 ∷ [])) ∷
     (calling caller (callMany 9) gives refuse 30) ∷
     (calling (inFrames (replicate 7 lending) caller) (callMany 0) gives ok (0 ∷ [])) ∷
@@ -70,6 +66,10 @@ gateRows =
     (listWordOf 0 3 gives refuse 24) ∷
     (listWordOf 8 18 gives ok (0x40000001 ∷ [])) ∷
     (listWordOf 8 19 gives refuse 24) ∷
+    (argumentUsed 0x40000001 0x01004000 gives ok (0 ∷ [])) ∷
+    (argumentUsed 0x40000001 0x02004000 gives refuse 24) ∷
+    (argumentUsed 0x80000001 0x01004000 gives refuse 24) ∷
+    (argumentUsed 0x80000001 0x02004000 gives ok (0 ∷ [])) ∷
     (calling caller (callOne 0 0x40000000) gives refuse 30) ∷
     (calling caller (callOne 0 0x40001000) gives ok (0 ∷ [])) ∷
     (calling caller (callOne 0 0x40001001) gives refuse 30) ∷

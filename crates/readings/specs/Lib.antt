@@ -2,6 +2,7 @@ pub mod Scene
 pub mod Change
 pub mod Question
 pub mod Word
+pub mod Effect
 pub mod Gate
 pub mod Border
 pub mod Table

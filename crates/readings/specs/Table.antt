@@ -8,6 +8,7 @@ use Rattle.words.specs.Answer.{refuse, ok}
 use Rattle.readings.specs.Scene.{Scene, untaggedTo, taggedTo, readOn, writeOn}
 use Rattle.readings.specs.Question.{Row, pointer, instruction, displace, reading, writing, passing, executing, _gives_}
 use Rattle.readings.specs.Word.{wordRows}
+use Rattle.readings.specs.Effect.{effectRows}
 use Rattle.readings.specs.Gate.{callOn, gateRows}
 use Rattle.readings.specs.Border.{borders}
 
@@ -74,6 +75,7 @@ table =
     (reading fourWords (taggedTo 3 3) gives refuse 24) ∷
     (reading fourWords (taggedTo 3 8) gives refuse 24) ∷
     (writing fourWords (taggedTo 3 5) gives refuse 24) ∷
+    (writing fourWords (taggedTo 2 5) gives ok (7 ∷ [])) ∷
     (reading twoMatches (taggedTo 0 5) gives refuse 25) ∷
     (passing readAndWrite (taggedTo 2 4) 4 true true gives refuse 24) ∷
     (executing (program 1) 0 (untaggedTo 0 0) (0x0C000FFF ∷ []) gives ok (4294967295 ∷ [])) ∷
@@ -96,5 +98,6 @@ table =
     underRights (λ r. reading (tenWords r) (untaggedTo 0 10) gives refuse 21) ++
     underRights (λ r. writing (tenWords r) (untaggedTo 0 10) gives refuse 21) ++
     wordRows ++
+    effectRows ++
     gateRows ++
     borders

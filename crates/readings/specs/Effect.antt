@@ -1,0 +1,56 @@
+-- What each instruction does, run and seen in A.
+use Prim.Native.Nat.{ℕ}
+use mathlib.Core.List.{List, [], _∷_, _++_}
+use Rattle.words.specs.Answer.{refuse, ok}
+use Rattle.words.specs.declared.pointer.Pointer.{Pointer}
+use Rattle.state.specs.declared.record.Machine.{Machine}
+use Rattle.readings.specs.Scene.{untaggedTo, taggedTo, readOn, fill, frameWith, inFrames, machineOf, sceneMemory}
+use Rattle.readings.specs.Change.{stackTo, relaid, holdingA, pointing}
+use Rattle.readings.specs.Question.{Question, Row, running, _gives_}
+
+-- a domain may read and execute segment 0, and read and write segment 1, its stack; another may execute segment 0
+abbrev worker : Machine
+worker =
+    relaid (stackTo 0 1)
+    (machineOf (record { lengths = 8 ∷ 4 ∷ []; gates = []; rights = (5 ∷ 3 ∷ []) ∷ (4 ∷ []) ∷ []; capabilities = [] }))
+
+-- A after so many instructions of a program in segment 0; segment 1 holds 11, 12, 13
+abbrev doing : ℕ → Machine → List ℕ → Question
+doing limit m program = running limit m (sceneMemory (fill 8 0 program ++ 11 ∷ 12 ∷ 13 ∷ []))
+
+-- with register 4 at segment 1
+abbrev working : Machine
+working = pointing 4 (untaggedTo 1 0) worker
+
+-- a jump to word 2, where A becomes 2; at word 1 it becomes 1
+abbrev jumping : ℕ → ℕ → Question
+jumping a jump = doing 2 (holdingA a worker) (jump ∷ 0x0C000001 ∷ 0x0C000002 ∷ [])
+
+-- RET through register 3, with this s, from a frame of this s and the return location at word 2
+abbrev returning : Pointer → Pointer → Pointer → Question
+returning p s recorded =
+    doing 2 (pointing 3 p (pointing 1 s (inFrames (frameWith 1 (readOn 0 0 1 0 ∷ []) recorded (untaggedTo 0 2) 1 ∷ []) worker)))
+    (0x09003000 ∷ 0x0C000001 ∷ 0x0C000002 ∷ [])
+
+abbrev pub effectRows : List Row
+effectRows =
+    (doing 2 worker (0x00000000 ∷ 0x0C000001 ∷ []) gives ok (0 ∷ [])) ∷
+    (doing 1 working (0x01004001 ∷ []) gives ok (12 ∷ [])) ∷
+    (doing 4 working (0x0C000005 ∷ 0x02004001 ∷ 0x0C000000 ∷ 0x01004001 ∷ []) gives ok (5 ∷ [])) ∷
+    (doing 2 working (0x0C000005 ∷ 0x03004001 ∷ []) gives ok (17 ∷ [])) ∷
+    (doing 2 working (0x0C000005 ∷ 0x04004001 ∷ []) gives ok (4294967289 ∷ [])) ∷
+    (doing 2 working (0x05054001 ∷ 0x01005001 ∷ []) gives ok (13 ∷ [])) ∷
+    (doing 2 (pointing 5 (taggedTo 15 4095) working) (0x06054001 ∷ 0x01004001 ∷ []) gives ok (0x8000FFFF ∷ [])) ∷
+    (jumping 5 0x07003002 gives ok (2 ∷ [])) ∷
+    (jumping 5 0x09003002 gives ok (2 ∷ [])) ∷
+    (jumping 0 0x0A003002 gives ok (2 ∷ [])) ∷
+    (jumping 1 0x0A003002 gives ok (1 ∷ [])) ∷
+    (jumping 0x80000000 0x0B003002 gives ok (2 ∷ [])) ∷
+    (jumping 0x7FFFFFFF 0x0B003002 gives ok (1 ∷ [])) ∷
+    (doing 1 (pointing 3 (taggedTo 0 0) worker) (0x07003002 ∷ []) gives refuse 28) ∷
+    (doing 1 (pointing 3 (taggedTo 0 0) worker) (0x08003002 ∷ []) gives refuse 28) ∷
+    (doing 1 (pointing 3 (taggedTo 0 0) worker) (0x09003002 ∷ []) gives refuse 32) ∷
+    (doing 2 worker (0x08003002 ∷ 0 ∷ 0x01002001 ∷ []) gives ok (12 ∷ [])) ∷
+    (returning (taggedTo 0 2) (untaggedTo 1 7) (taggedTo 1 7) gives ok (2 ∷ [])) ∷
+    (returning (taggedTo 0 2) (untaggedTo 1 6) (untaggedTo 1 7) gives refuse 32) ∷
+    (returning (taggedTo 0 1) (untaggedTo 1 7) (untaggedTo 1 7) gives refuse 32) ∷ []
