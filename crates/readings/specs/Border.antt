@@ -40,7 +40,7 @@ small = ofSize 2 5 2
 abbrev full : Machine
 full = ofSize 16 1 8
 
--- an array of the layout: the rows in use of the small machine, the last row of the full one, and the first and last unused row
+-- an array of the layout: the rows in use of the small machine, the last row of the full one, whose highest numbers are given, and the first and last unused row
 abbrev arrayBorders : (ℕ → ℕ → Layout → Layout) → ℕ → ℕ → ℕ → List Row
 arrayBorders to last few many =
     upTo few (λ n. relaid (to 0 n) small) ++
@@ -68,7 +68,7 @@ layoutBorders =
     upTo 4095 (λ n. relaid (startTo 0 n 0) small) ++
     upTo 1 (λ n. relaid (startTo 0 0 n) small)
 
--- a pointer of either tag
+-- a pointer of a register or of a frame in use
 abbrev pointerBorders : (Pointer → Machine) → List Row
 pointerBorders m = upTo 15 (λ n. m (untaggedTo n 0)) ++ upTo 4095 (λ n. m (untaggedTo 0 n))
 

@@ -8,6 +8,7 @@ use Rattle.state.specs.declared.record.Layout.{Layout}
 use Rattle.state.specs.declared.record.Frame.{Frame}
 use Rattle.state.specs.declared.record.Registers.{Registers}
 use Rattle.state.specs.declared.record.Machine.{Machine}
+use Rattle.fresh.specs.Fresh.{freshOf}
 use Rattle.readings.specs.Scene.{Scene, machineOf}
 
 -- a layout with these arrays in place of its own
@@ -48,6 +49,10 @@ startTo segment word domain l =
 -- the layout changed; the registers stay
 abbrev pub relaid : (Layout → Layout) → Machine → Machine
 relaid change m = record { layout = change (m .layout); registers = m .registers; pointers = m .pointers; frames = m .frames; depth = m .depth }
+
+-- a fresh machine of the same layout
+abbrev pub restarted : Machine → Machine
+restarted m = freshOf (m .layout)
 
 -- other registers
 abbrev registersTo : Registers → Machine → Machine

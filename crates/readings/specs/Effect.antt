@@ -1,18 +1,18 @@
--- What each instruction does, run and seen in A.
+-- What a fresh machine and each instruction do, seen in A.
 use Prim.Native.Nat.{ℕ}
 use mathlib.Core.List.{List, [], _∷_, _++_}
 use Rattle.words.specs.Answer.{refuse, ok}
 use Rattle.words.specs.declared.pointer.Pointer.{Pointer}
 use Rattle.state.specs.declared.record.Machine.{Machine}
 use Rattle.readings.specs.Scene.{untaggedTo, taggedTo, readOn, fill, frameWith, inFrames, machineOf, sceneMemory}
-use Rattle.readings.specs.Change.{stackTo, relaid, holdingA, pointing}
+use Rattle.readings.specs.Change.{stackTo, rightTo, startTo, relaid, restarted, holdingA, pointing}
 use Rattle.readings.specs.Question.{Question, Row, running, _gives_}
 
--- a domain may read and execute segment 0, and read and write segment 1, its stack; another may execute segment 0
+-- domains 0 and 1 may read and execute segment 0, the stack of domain 1; domain 0 may read and write segment 1, its stack
 abbrev worker : Machine
 worker =
     relaid (stackTo 0 1)
-    (machineOf (record { lengths = 8 ∷ 4 ∷ []; gates = []; rights = (5 ∷ 3 ∷ []) ∷ (4 ∷ []) ∷ []; capabilities = [] }))
+    (machineOf (record { lengths = 8 ∷ 4 ∷ []; gates = []; rights = (5 ∷ 3 ∷ []) ∷ (5 ∷ []) ∷ []; capabilities = [] }))
 
 -- A after so many instructions of a program in segment 0; segment 1 holds 11, 12, 13
 abbrev doing : ℕ → Machine → List ℕ → Question
@@ -26,14 +26,16 @@ working = pointing 4 (untaggedTo 1 0) worker
 abbrev jumping : ℕ → ℕ → Question
 jumping a jump = doing 2 (holdingA a worker) (jump ∷ 0x0C000001 ∷ 0x0C000002 ∷ [])
 
--- RET through register 3, with this s, from a frame of this s and the return location at word 2
+-- RET through a pointer in register 3, with this s, from a frame that records a pointer as s, word 2, and domain 1; there b is used
 abbrev returning : Pointer → Pointer → Pointer → Question
 returning p s recorded =
-    doing 2 (pointing 3 p (pointing 1 s (inFrames (frameWith 1 (readOn 0 0 1 0 ∷ []) recorded (untaggedTo 0 2) 1 ∷ []) worker)))
-    (0x09003000 ∷ 0x0C000001 ∷ 0x0C000002 ∷ [])
+    doing 2 (pointing 3 p (pointing 2 (untaggedTo 1 0) (pointing 1 s (inFrames (frameWith 1 (readOn 0 0 1 0 ∷ []) recorded (untaggedTo 0 2) 1 ∷ []) worker))))
+    (0x09003000 ∷ 7 ∷ 0x01002001 ∷ [])
 
 abbrev pub effectRows : List Row
 effectRows =
+    (doing 1 (restarted worker) (0x01002001 ∷ []) gives ok (12 ∷ [])) ∷
+    (doing 1 (restarted (relaid (startTo 0 2 1) (relaid (rightTo 0 0) worker))) (0 ∷ 7 ∷ 0x01002001 ∷ []) gives ok (7 ∷ [])) ∷
     (doing 2 worker (0x00000000 ∷ 0x0C000001 ∷ []) gives ok (0 ∷ [])) ∷
     (doing 1 working (0x01004001 ∷ []) gives ok (12 ∷ [])) ∷
     (doing 4 working (0x0C000005 ∷ 0x02004001 ∷ 0x0C000000 ∷ 0x01004001 ∷ []) gives ok (5 ∷ [])) ∷
@@ -51,6 +53,6 @@ effectRows =
     (doing 1 (pointing 3 (taggedTo 0 0) worker) (0x08003002 ∷ []) gives refuse 28) ∷
     (doing 1 (pointing 3 (taggedTo 0 0) worker) (0x09003002 ∷ []) gives refuse 32) ∷
     (doing 2 worker (0x08003002 ∷ 0 ∷ 0x01002001 ∷ []) gives ok (12 ∷ [])) ∷
-    (returning (taggedTo 0 2) (untaggedTo 1 7) (taggedTo 1 7) gives ok (2 ∷ [])) ∷
+    (returning (taggedTo 0 2) (untaggedTo 1 7) (taggedTo 1 7) gives ok (7 ∷ [])) ∷
     (returning (taggedTo 0 2) (untaggedTo 1 6) (untaggedTo 1 7) gives refuse 32) ∷
     (returning (taggedTo 0 1) (untaggedTo 1 7) (untaggedTo 1 7) gives refuse 32) ∷ []

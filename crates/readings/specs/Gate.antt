@@ -5,7 +5,7 @@ use lib.ListN.{replicate}
 use Rattle.words.specs.Answer.{refuse, ok}
 use Rattle.state.specs.declared.record.Machine.{Machine}
 use Rattle.readings.specs.Scene.{untaggedTo, taggedTo, fill, lending, inFrames, machineOf, sceneMemory}
-use Rattle.readings.specs.Change.{gatedomainTo, rightTo, relaid, locatedAt, pointing}
+use Rattle.readings.specs.Change.{gatedomainTo, stackTo, rightTo, relaid, locatedAt, pointing}
 use Rattle.readings.specs.Question.{Question, Row, running, _gives_}
 use Rattle.readings.specs.Word.{eachBit}
 
@@ -62,6 +62,7 @@ gateRows =
     (calling (inFrames (replicate 8 lending) caller) (callMany 0) gives refuse 31) ∷
     (calling caller (callOn 0x00001001 0 0 0) gives refuse 29) ∷
     (calling (relaid (rightTo 1 3) caller) (callMany 0) gives refuse 22) ∷
+    (running 2 (relaid (stackTo 1 1) (relaid (rightTo 17 5) caller)) (sceneMemory (fill 40 0 (callMany 0) ++ 0x01002001 ∷ 7 ∷ [])) gives ok (7 ∷ [])) ∷
     (listWordOf 0 2 gives ok (0 ∷ [])) ∷
     (listWordOf 0 3 gives refuse 24) ∷
     (listWordOf 8 18 gives ok (0x40000001 ∷ [])) ∷

@@ -1,6 +1,6 @@
 -- The readings that the paper marks to be proved, and the borders of its ranges: a question and its answer a row.
 use Prim.Native.Nat.{ℕ}
-use mathlib.Core.Bool.{true}
+use mathlib.Core.Bool.{true, false}
 use mathlib.Core.List.{List, [], _∷_, _++_}
 use lib.IntN.{pos, negsuc}
 use lib.ListN.{replicate}
@@ -78,6 +78,8 @@ table =
     (writing fourWords (taggedTo 2 5) gives ok (7 ∷ [])) ∷
     (reading twoMatches (taggedTo 0 5) gives refuse 25) ∷
     (passing readAndWrite (taggedTo 2 4) 4 true true gives refuse 24) ∷
+    (passing readAndWrite (taggedTo 2 4) 4 true false gives ok (1 ∷ [])) ∷
+    (passing readAndWrite (taggedTo 2 4) 5 true false gives refuse 24) ∷
     (executing (program 1) 0 (untaggedTo 0 0) (0x0C000FFF ∷ []) gives ok (4294967295 ∷ [])) ∷
     (executing (program 2) 4294967295 (untaggedTo 0 0) (0x03000001 ∷ 1 ∷ []) gives ok (0 ∷ [])) ∷
     (executing (program 1) 0 (untaggedTo 0 4095) (0x01000001 ∷ []) gives refuse 23) ∷
@@ -91,6 +93,7 @@ table =
     (executing fourWords 0 (taggedTo 3 3) (0x01000000 ∷ []) gives refuse 24) ∷
     (executing fourWords 0 (taggedTo 3 8) (0x01000000 ∷ []) gives refuse 24) ∷
     (executing fourWords 0 (taggedTo 3 5) (0x02000000 ∷ []) gives refuse 24) ∷
+    (executing fourWords 0 (taggedTo 3 4) (0x01008000 ∷ []) gives refuse 24) ∷
     (executing twoMatches 0 (taggedTo 0 5) (0x01000000 ∷ []) gives refuse 25) ∷
     (executing readAndWrite 7 (untaggedTo 0 2) (callWith 0xC0000004) gives refuse 24) ∷
     (executing readAndWrite 7 (untaggedTo 0 2) (callWith 0x40000004) gives ok (7 ∷ [])) ∷
