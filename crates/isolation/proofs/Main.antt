@@ -1,18 +1,12 @@
 -- The isolation theorem, over the whole stretch, at the processor's own definition; then at the calls of stretch and of step.
-use Prim.Native.Nat.{ℕ, _≤_}
-use native.Mathlib.Omega.{arith}
-use mathlib.Core.Bool.{Bool, true, false}
+use Prim.Native.Nat.{ℕ}
 use mathlib.Core.List.{List}
 use mathlib.Core.Path.{_≡_, refl}
-use borrow.Author.Tests.{leb-true}
-use lib.Dec.{leb}
 use lib.ListN.{length}
-use Rattle.words.specs.Answer.{if_then_else_}
 use Rattle.state.specs.declared.record.Machine.{Machine}
-use Rattle.soundness.specs.Sound.{soundTest}
 use Rattle.soundness.proofs.Facts.{sound-facts}
 use Rattle.runs.specs.Run.{judged, calledOf}
-use Rattle.runs.proofs.Judging.{judged-sound}
+use Rattle.runs.proofs.Judging.{judged-sound, judged-long}
 use Rattle.processor.specs.Calls.{stretchOf, stretchCall}
 use Rattle.executions.specs.Called.{stepsCalled}
 use Rattle.executions.proofs.Called.{steps-stretch}
@@ -24,17 +18,7 @@ use Rattle.isolation.specs.Statements.{Isolation, CallIsolation, StepsIs
 pub isolation : Isolation
 isolation m sound limit w v hw hv agree = isolation-fits m limit w v (sound-facts m sound .layout .words) hw hv agree
 
--- a call that is not refused has 8,192 words
-judged-long : (m : Machine) (words : List ℕ) → judged m words ≡ 0 → 8192 ≤ length words
-unfolding judged
-judged-long m words e = leb-true _ _ (by (soundTest m) (leb 8192 (length words)) e)
-  where
-    by : (sound long : Bool) → _≡_ {A = ℕ} (if sound then (if long then 0 else 7) else 9) 0 → long ≡ true
-    by sound true h = refl
-    by true false h = absurd (omega (arith, h))
-    by false false h = absurd (omega (arith, h))
-
--- it is the stretch, and so are calls of step
+-- a call that is not refused is the stretch, and so are calls of step
 called : (limit : ℕ) (m : Machine) (words : List ℕ) → judged m words ≡ 0 → stretchCall limit m words ≡ stretchOf limit m words
 unfolding stretchCall calledOf
 called limit m words e = rw e refl
