@@ -1,10 +1,10 @@
--- A worked pair: two domains, a hidden word that differs, a program that stores and crosses.
+-- A worked pair: two domains, two hidden words that differ, a program that stores, in one of them too, and crosses.
 use Prim.Native.Nat.{ℕ, _+_, _-_, _≤_}
 use native.Mathlib.Omega.{arith}
 use native.Mathlib.Nat.{le-of-eq}
 use mathlib.Core.Bool.{true, false, _||_}
 use mathlib.Core.List.{List, [], _∷_, _++_}
-use mathlib.Core.Path.{_≡_, refl, sym}
+use mathlib.Core.Path.{_≡_, refl, sym, _∙_}
 use lib.ListN.{length, set, replicate, length-replicate}
 use Rattle.words.specs.Field.{field, common}
 use Rattle.words.specs.Offset.{signedOf, displacedOf, literalOf}
@@ -43,17 +43,17 @@ use Rattle.isolation.proofs.Main.{isolation}
 abbrev row : ℕ → List ℕ → List ℕ
 row n xs = xs ++ replicate (n - length xs) 0
 
--- domain 0 executes segment 0, reads and writes segment 1 and may call the gate in segment 2;
+-- domain 0 executes segment 0, reads and writes segment 1, may call the gate in segment 2 and writes segment 3, which it may not read;
 -- domain 1 executes segment 2, reads and writes segment 3
 unfoldable pub start : Machine
 start = record {
   layout = record {
-    lengths = row 16 (5 ∷ 8 ∷ 2 ∷ 4 ∷ []);
+    lengths = row 16 (6 ∷ 8 ∷ 2 ∷ 4 ∷ []);
     gates = row 16 (0 ∷ 0 ∷ 1 ∷ []);
     start = record { word = 0; segment = 0; domain = 0 };
     gatedomains = row 16 (0 ∷ 0 ∷ 1 ∷ []);
     stacks = row 8 (1 ∷ 3 ∷ []);
-    rights = row 16 (4 ∷ 3 ∷ 8 ∷ []) ++ row 112 (0 ∷ 0 ∷ 4 ∷ 3 ∷ []);
+    rights = row 16 (4 ∷ 3 ∷ 8 ∷ 2 ∷ []) ++ row 112 (0 ∷ 0 ∷ 4 ∷ 3 ∷ []);
     segments = 4;
     domains = 2;
   };
@@ -63,16 +63,20 @@ start = record {
   depth = 0;
 }
 
--- segment 0: LIT n; STORE at b + 6; EPP a, b + 1; CALL through the pointer at b; HALT
--- segment 1: a pointer to the gate; an argument list of one argument, word 6 to read; word 6
+-- segment 0: LIT n; STORE at b + 6; STORE through the pointer at b + 7; EPP a, b + 1; CALL through the pointer at b; HALT
+-- segment 1: a pointer to the gate; an argument list of one argument, word 6 to read; word 6; a pointer to word 1 of segment 3
 -- segment 2: LOAD through the first argument; HALT
--- segment 3: a number that domain 1 keeps for itself
+-- segment 3: a number that domain 1 keeps for itself, twice
 unfoldable pub memory : (n hidden : ℕ) → List ℕ → List ℕ
 memory n hidden rest =
-    (0x0C000000 + n) ∷ 0x02002006 ∷ 0x05002001 ∷ 0x0800A000 ∷ 0 ∷
-    (0x2000 ∷ 1 ∷ 4 ∷ 0 ∷ 0x1006 ∷ 0x40000001 ∷ 0 ∷ 0 ∷
+    (0x0C000000 + n) ∷ 0x02002006 ∷ 0x0200A007 ∷ 0x05002001 ∷ 0x0800A000 ∷ 0 ∷
+    (0x2000 ∷ 1 ∷ 5 ∷ 0 ∷ 0x1006 ∷ 0x40000001 ∷ 0 ∷ 0x3001 ∷
     (0x01008003 ∷ 0 ∷
-    (hidden ∷ 0 ∷ 0 ∷ 0 ∷ rest)))
+    (hidden ∷ hidden ∷ 0 ∷ 0 ∷ rest)))
+
+-- the memory when n is stored
+abbrev after : (n hidden : ℕ) → List ℕ → List ℕ
+after n hidden rest = set (set (memory n hidden rest) (place start 1 6) n) (place start 3 1) n
 
 -- the machine when n is stored and domain 1 is entered
 unfoldable pub called : ℕ → Machine
@@ -86,7 +90,7 @@ called n = record {
         record { word = 1; length = 5; segment = 1; source = 0; read = true; write = false } ∷
         replicate 7 noCapability;
     s = noPointer;
-    back = record { word = 4; segment = 0; tag = false };
+    back = record { word = 5; segment = 0; tag = false };
     count = 2;
     domain = 0;
   });
@@ -95,20 +99,22 @@ called n = record {
 
 -- what is computed, for every number that is hidden and every rest of the memory
 pub record Computed (hidden : ℕ) (rest : List ℕ) : Type 0 where
-  -- four instructions, a store in word 6 of segment 1, and a crossing
-  pub five : stretchOf 100 start (memory 5 hidden rest) ≡ ran (called 5) (set (memory 5 hidden rest) (place start 1 6) 5) 4 crossed
-  pub six : stretchOf 100 start (memory 6 hidden rest) ≡ ran (called 6) (set (memory 6 hidden rest) (place start 1 6) 6) 4 crossed
-  -- the one number that a word receives
-  pub stores : storesOf 100 start (memory 5 hidden rest) ≡ record { segment = 1; word = 6; value = 5 } ∷ []
+  -- five instructions, stores in word 6 of segment 1 and word 1 of segment 3, and a crossing
+  pub five : stretchOf 100 start (memory 5 hidden rest) ≡ ran (called 5) (after 5 hidden rest) 5 crossed
+  pub six : stretchOf 100 start (memory 6 hidden rest) ≡ ran (called 6) (after 6 hidden rest) 5 crossed
+  -- the numbers that words receive
+  pub stores : storesOf 100 start (memory 5 hidden rest) ≡ record { segment = 1; word = 6; value = 5 } ∷ record { segment = 3; word = 1; value = 5 } ∷ []
   -- then domain 1 gets its argument through the live frame
   pub loads : (n : ℕ) → stretchOf 1 (called 5) (set (memory 5 hidden rest) (place start 1 6) n) .machine .registers .a ≡ n
-  -- domain 0 may not see word 0 of segment 3; it may execute word 0 of segment 0 and not read it
+  -- domain 0 may not see words 0 and 1 of segment 3, and could write them; it may execute word 0 of segment 0 and not read it
   pub secret : (existing start 3 0 ≡ true) × (maySee start 3 0 ≡ false)
+  pub covered : (existing start 3 1 ≡ true) × (maySee start 3 1 ≡ false)
+  pub writable : couldWrite start 3 1 ≡ true
   pub code : (existing start 0 0 ≡ true) × ((byStatic start flag.Read 0 0 || byLive start access.Read 0 0) ≡ false)
   -- domain 1 has no static rights on its argument, nor W by the live frame
   pub argument : (existing start 1 6 ≡ true) × ((byStatic (called 5) flag.Execute 1 6 || byStatic (called 5) flag.Read 1 6) ≡ false)
   pub unwritable : couldWrite (called 5) 1 6 ≡ false
-  pub written : wordAt start (set (memory 5 hidden rest) (place start 1 6) 5) 1 6 ≡ 5
+  pub written : wordAt start (after 5 hidden rest) 1 6 ≡ 5
 
 pub computed : (hidden : ℕ) (rest : List ℕ) → Computed hidden rest
 unfolding field common signedOf displacedOf literalOf pointerOf instructionOf modeOf baseOf basesOf has exists rightsOf staticOf coversOf firstOf liveMatch liveOf verdictOf locateOf referenceOf check readOf fetchOf readWord fetch displacedBy throughOf effectiveOf jumpCheck callWay loadOf branchOf callOf isLoad isStore valueOf takenOf effectOf executeOf planOf jumpOf returnOf listWord listPointer sourceOf capabilityOf argumentOf argumentsFrom frameAfter frameOf entered enterOf decide commit execute runFrom storesOf maySee couldWrite start memory called
@@ -118,6 +124,8 @@ computed hidden rest = record {
   stores = refl;
   loads = λ n. refl;
   secret = (refl, refl);
+  covered = (refl, refl);
+  writable = refl;
   code = (refl, refl);
   argument = (refl, refl);
   unwritable = refl;
@@ -134,21 +142,24 @@ unfolding start called baseOf allFrom segmentTest stackTest rightsTest startTest
 called-sound = refl
 
 -- a memory whose rest is long enough has 8,192 words; such a rest, of zeros
-pub fits : (n hidden : ℕ) (rest : List ℕ) → 8173 ≤ length rest → 8192 ≤ length (memory n hidden rest)
+pub fits : (n hidden : ℕ) (rest : List ℕ) → 8172 ≤ length rest → 8192 ≤ length (memory n hidden rest)
 unfolding memory
 fits n hidden rest long = omega arith
 
 pub zeros : List ℕ
-zeros = replicate 8173 0
+zeros = replicate 8172 0
 
-pub enough : 8173 ≤ length zeros
+pub enough : 8172 ≤ length zeros
 unfolding zeros
-enough = le-of-eq (sym (length-replicate {A = ℕ} 8173 0))
+enough = le-of-eq (sym (length-replicate {A = ℕ} 8172 0))
 
 -- the two memories agree, and the theorem holds of them; the two stretches are those of `five`
 pub agrees : (rest : List ℕ) → Agree start (memory 5 7 rest) (memory 5 9 rest)
 unfolding start memory basesOf baseOf
-agrees rest = let c = computed 7 rest .secret in hidden-agrees start (memory 5 7 rest) 3 0 9 (c .0) (c .1)
+agrees rest s k e =
+    let c = computed 7 rest in
+    let w = memory 5 7 rest in
+    hidden-agrees start w 3 0 9 (c .secret .0) (c .secret .1) s k e ∙ hidden-agrees start (set w (place start 3 0) 9) 3 1 9 (c .covered .0) (c .covered .1) s k e
 
 pub pair : Isolated start (memory 5 7 zeros) (memory 5 9 zeros) (stretchOf 100 start (memory 5 7 zeros)) (stretchOf 100 start (memory 5 9 zeros))
     (storesOf 100 start (memory 5 7 zeros)) (storesOf 100 start (memory 5 9 zeros))
