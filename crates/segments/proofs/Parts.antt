@@ -9,8 +9,8 @@ use lib.Dec.{leb, ltb}
 use lib.ListN.{length, getD, take, drop, length-take, length-drop}
 use Rattle.words.specs.Answer.{Answer, refuse, ok, _>>_, require, numberOf}
 use Rattle.state.specs.declared.record.Machine.{Machine}
-use Rattle.state.specs.Bases.{baseOf, basesOf}
-use Rattle.state.proofs.Sums.{base-apart, bases-at}
+use Rattle.state.specs.Bases.{baseOf}
+use Rattle.state.proofs.Sums.{base-apart}
 use Rattle.soundness.specs.Sound.{soundTest}
 use Rattle.soundness.proofs.Facts.{sound-facts}
 use Rattle.segments.specs.Segment.{segmentCheck, unlessRefused, partStart, partSize, segmentPart, wordPlace}

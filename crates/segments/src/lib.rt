@@ -32,14 +32,14 @@ pub fn segment_number(m: Machine, words: &[u32], number: u8) -> u8
     judge(m, words.len(), number)
 }
 
-// Where the part of a memory of size words that a segment occupies begins and ends.
-struct Bounds {
-    from: usize,
-    to: usize,
+// Where the words of a segment begin and end, counted in words of the memory.
+pub struct Bounds {
+    pub from: usize,
+    pub to: usize,
 }
 
-// The words of a segment; 0 to 0 where it is refused.
-fn span(m: Machine, size: usize, number: u8) -> Bounds
+// The bounds of a segment in a memory of size words, which need not be lent; 0 and 0 where segment_number refuses.
+pub fn span(m: Machine, size: usize, number: u8) -> Bounds
     ensures { λ s. ⌜ (s .from ≡ partStart m size number) × (s .to ≡ partStart m size number + partSize m size number) ⌝ }
     ensures { λ s. ⌜ s .to ≤ size ⌝ }
 {
