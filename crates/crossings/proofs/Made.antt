@@ -1,6 +1,6 @@
 -- What an answer of `make_frame` says of the frame that is due.
 use mathlib.Core.Bool.{true, false}
-use mathlib.Core.Path.{_≡_, refl, sym, ap, _∙_}
+use mathlib.Core.Path.{_≡_, sym, ap, _∙_}
 use Rattle.words.specs.Answer.{Answer, refuse, ok}
 use Rattle.words.proofs.Integers.{never}
 use Rattle.state.specs.declared.record.Frame.{Frame}

@@ -1,8 +1,7 @@
 // What a run comes to after a local run: it ends, or it goes on from a crossing.
 ghost use mathlib.Core.Path.{_≡_};
 ghost use Prim.Native.Nat.{_<_, _≤_, _-_};
-ghost use Rattle.runs.specs.Private.{crossedAnswer, ends, resumeAnswer, resumeAfter, resumeOf, Countable};
-ghost use Rattle.runs.specs.Run.{endAnswer};
+ghost use Rattle.runs.specs.Private.{crossedAnswer, resumeAnswer, resumeAfter, resumeOf, Countable};
 use crate::outcome::End;
 use crossings::crossing::Crossed;
 use crossings::crossing::enter;

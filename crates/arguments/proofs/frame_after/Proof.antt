@@ -1,6 +1,6 @@
 -- `arguments::frame_after` meets its contract.
 use borrow.Author.Needs.{needs}
-use mathlib.Core.Path.{_≡_, refl, sym, ap, _∙_}
+use mathlib.Core.Path.{_∙_}
 use Rattle.addressing.specs.Effective.{displacedBy}
 use Rattle.arguments.specs.ArgumentList.{listPointer, frameAfter}
 use Rattle.arguments.proofs.frame_after.Statement.{statement}

@@ -1,9 +1,9 @@
 -- `image_reader::store::segment_words` meets its contract.
-use Prim.Native.Nat.{ℕ, _-_, _*_}
+use Prim.Native.Nat.{_-_, _*_}
 use native.Mathlib.Omega.{arith}
-use mathlib.Core.Path.{_≡_, sym, ap, _∙_}
+use mathlib.Core.Path.{sym, ap, _∙_}
 use borrow.Author.Needs.{needs}
-use lib.ListN.{getD, drop}
+use lib.ListN.{drop}
 use lib.Seq.{drop-drop}
 use Rattle.image_format.specs.Bytes.{wordOf, wordsOf}
 use Rattle.image_format.proofs.Parts.{words-length, words-at}

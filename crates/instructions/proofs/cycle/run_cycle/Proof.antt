@@ -1,6 +1,6 @@
 -- `instructions::cycle::run_cycle` meets its contract.
 use borrow.Author.Needs.{needs}
-use mathlib.Core.Path.{_≡_, refl, sym, ap, _∙_, subst}
+use mathlib.Core.Path.{refl, sym, ap, subst}
 use Rattle.instructions.specs.Instruction.{planOf}
 use Rattle.instructions.specs.Cycle.{Stays, cycleAnswer, cycleOf, cycleWords}
 use Rattle.instructions.proofs.cycle.run_cycle.Statement.{statement}

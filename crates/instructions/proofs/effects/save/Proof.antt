@@ -1,6 +1,6 @@
 -- `instructions::effects::save` meets its contract.
 use borrow.Author.Needs.{needs}
-use mathlib.Core.Path.{_≡_, refl, sym, ap, _∙_, subst}
+use mathlib.Core.Path.{refl, sym, ap, _∙_, subst}
 use Rattle.instructions.specs.Cycle.{Stays, cycleAnswer}
 use borrow.Author.Tests.{eq-eqb, ne-eqb}
 use Rattle.instructions.proofs.effects.save.Statement.{statement}

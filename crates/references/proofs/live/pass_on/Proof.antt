@@ -1,6 +1,6 @@
 -- `references::live::pass_on` meets its contract.
 use native.Mathlib.Nat.{mod-eq-of-lt}
-use mathlib.Core.Path.{_≡_, refl, sym, ap, _∙_}
+use mathlib.Core.Path.{sym, ap, _∙_}
 use borrow.Author.Needs.{needs}
 use Rattle.words.specs.Answer.{ok}
 use Rattle.references.proofs.Sources.{code-source, code-none}
