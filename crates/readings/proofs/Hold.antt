@@ -23,8 +23,8 @@ use Rattle.references.specs.Static.{exists, rightsOf, staticOf}
 use Rattle.capabilities.specs.Search.{coversOf, firstOf}
 use Rattle.references.specs.Live.{liveMatch, liveOf, passedOf}
 use Rattle.references.specs.Reference.{verdictOf, locateOf, referenceOf}
-use Rattle.references.specs.Check.{check}
-use Rattle.record_checks.specs.Judged.{judgedCheck}
+use Rattle.references.specs.Check.{staticCheck, check}
+use Rattle.record_checks.specs.Judged.{judgedStatic, judgedCheck}
 use Rattle.memory.specs.Reader.{readOf, fetchOf, readWord, fetch}
 use Rattle.addressing.specs.Effective.{displacedBy, throughOf, effectiveOf}
 use Rattle.transfers.specs.Transfer.{jumpCheck, callWay}
@@ -34,6 +34,8 @@ use Rattle.crossings.specs.Crossing.{entered, left, enterOf, leaveCheck, leaveO
 use Rattle.runs.specs.Step.{decide, commit, execute}
 use Rattle.runs.specs.Run.{runFrom, judged, calledOf}
 use Rattle.processor.specs.Calls.{runCall}
+use Rattle.segments.specs.Segment.{segmentCheck}
+use Rattle.isolation.specs.Visible.{maySee, couldWrite}
 use Rattle.readings.specs.Question.{answer, Row}
 use Rattle.readings.specs.Table.{table}
 use Rattle.readings.specs.Statements.{Readings}
@@ -88,7 +90,8 @@ pub readings : Readings
 unfolding field common pointerWord pointerOf signedOf displacedOf literalOf instructionOf
     baseOf basesOf freshOf allFrom segmentTest stackTest rightsTest startTest layoutTest registersTest pointerTest pointersTest
     capabilityTest emptyCapability emptyPointer emptyFrame frameTest framesTest soundTest
-    has exists rightsOf staticOf coversOf firstOf liveMatch liveOf passedOf verdictOf locateOf referenceOf check judgedCheck
+    has exists rightsOf staticOf coversOf firstOf liveMatch liveOf passedOf verdictOf locateOf referenceOf staticCheck check judgedStatic judgedCheck
+    maySee couldWrite segmentCheck
     sumOf differenceOf readOf fetchOf readWord fetch displacedBy throughOf effectiveOf
     jumpCheck callWay jumpOf callOf returnOf loadOf branchOf isLoad isStore valueOf takenOf effectOf executeOf planOf modeOf listWord sourceOf capabilityOf listPointer argumentOf argumentsFrom frameAfter frameOf
     entered left enterOf leaveCheck leaveOf decide commit execute runFrom judged calledOf runCall

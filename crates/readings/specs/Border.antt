@@ -10,7 +10,7 @@ use Rattle.state.specs.declared.record.Capability.{Capability}
 use Rattle.state.specs.declared.record.Frame.{Frame}
 use Rattle.state.specs.declared.record.Machine.{Machine}
 use Rattle.state.specs.Record.{noPointer, noCapability, freeFrame}
-use Rattle.readings.specs.Scene.{untaggedTo, taggedTo, grant, readOn, writeOn, frameWith, sceneFrame, lending, inFrames, machineOf, sceneMemory}
+use Rattle.readings.specs.Scene.{untaggedTo, taggedTo, grant, readOn, writeOn, frameWith, sceneFrame, lent, lending, inFrames, machineOf, sceneMemory}
 use Rattle.readings.specs.Change.{lengthTo, gatesTo, gatedomainTo, stackTo, rightTo, startTo, relaid, locatedAt, pointing, frameTo}
 use Rattle.readings.specs.Question.{Row, running, _gives_}
 
@@ -49,6 +49,7 @@ arrayBorders to last few many =
     upTo 0 (λ n. relaid (to 2 n) small) ++
     upTo 0 (λ n. relaid (to last n) small)
 
+-- the ranges of a layout: how many there are of each, its arrays, the rights, the start
 abbrev layoutBorders : List Row
 layoutBorders =
     within 1 16 (λ n. ofSize n 1 1) ++
@@ -72,6 +73,7 @@ layoutBorders =
 abbrev pointerBorders : (Pointer → Machine) → List Row
 pointerBorders m = upTo 15 (λ n. m (untaggedTo n 0)) ++ upTo 4095 (λ n. m (untaggedTo 0 n))
 
+-- the ranges of the registers: the location, the executing domain, the first and the last pointer
 abbrev registerBorders : List Row
 registerBorders =
     upTo 15 (λ n. locatedAt n 0 0 small) ++
@@ -106,9 +108,6 @@ zeroCapability m =
 abbrev zeroPointer : (Pointer → Machine) → List Row
 zeroPointer m = unsound (m (untaggedTo 1 0)) ∷ unsound (m (untaggedTo 0 1)) ∷ unsound (m (taggedTo 0 0)) ∷ []
 
-abbrev lent : Capability
-lent = readOn 0 0 1 0
-
 -- the small machine with one frame in use, and with a free frame i beside it
 abbrev inFrame : Frame → Machine
 inFrame f = inFrames (f ∷ []) small
@@ -127,6 +126,7 @@ zeroFrame m =
     zeroCapability (λ c. m (frameWith 0 (c ∷ []) noPointer noPointer 0)) ++
     zeroCapability (λ c. m (frameWith 0 (replicate 8 noCapability ++ c ∷ []) noPointer noPointer 0))
 
+-- the ranges of the frames: how many are in use, what one of them holds, and zeros in the others
 abbrev frameBorders : List Row
 frameBorders =
     upTo 8 (λ n. inFrames (replicate n lending) small) ++

@@ -3,9 +3,10 @@ use Prim.Native.Nat.{ℕ, zero, suc, _+_}
 use mathlib.Core.List.{List, [], _∷_, _++_}
 use lib.ListN.{replicate}
 use Rattle.words.specs.Answer.{refuse, ok}
+use Rattle.words.specs.declared.pointer.Pointer.{Pointer}
 use Rattle.state.specs.declared.record.Machine.{Machine}
 use Rattle.readings.specs.Scene.{untaggedTo, taggedTo, fill, lending, inFrames, machineOf, sceneMemory}
-use Rattle.readings.specs.Change.{gatedomainTo, stackTo, rightTo, relaid, locatedAt, pointing}
+use Rattle.readings.specs.Change.{lengthTo, gatedomainTo, stackTo, rightTo, relaid, locatedAt, pointing}
 use Rattle.readings.specs.Question.{Question, Row, running, _gives_}
 use Rattle.readings.specs.Word.{eachBit}
 
@@ -14,9 +15,13 @@ abbrev arguments : ℕ → ℕ → ℕ → List ℕ
 arguments zero p mode = []
 arguments (suc n) p mode = p ∷ mode ∷ arguments n p mode
 
--- CALL through the pointer word behind it, with n such arguments; the list is at word 2
+-- CALL through the pointer word behind it, with a list at word 2 that begins with n and this return location
+abbrev listing : ℕ → ℕ → ℕ → List ℕ
+listing gate n back = 0x0800B001 ∷ gate ∷ n ∷ back ∷ 0 ∷ []
+
+-- such a CALL with n such arguments
 abbrev pub callOn : ℕ → ℕ → ℕ → ℕ → List ℕ
-callOn gate n p mode = 0x0800B001 ∷ gate ∷ n ∷ 0 ∷ 0 ∷ arguments n p mode
+callOn gate n p mode = listing gate n 0 ++ arguments n p mode
 
 -- domain 0 may read and execute 40 words, and call segment 1, whose first of two words is a gate into domain 1, which may execute them
 abbrev caller : Machine
@@ -35,6 +40,20 @@ callOne p mode = callOn 0x00001000 1 p mode
 abbrev calling : Machine → List ℕ → Question
 calling m words = running 1 m (sceneMemory words)
 
+-- a call of the gate with no arguments after this n and this return location
+abbrev callListing : ℕ → ℕ → Question
+callListing n back = calling caller (listing 0x00001000 n back)
+
+-- a call with no arguments, its list at this word of a segment of 4,096 words
+abbrev callAt : ℕ → Question
+callAt word = calling (relaid (lengthTo 0 4096) (pointing 0 (untaggedTo 0 word) caller)) (listing 0x00001000 0 0)
+
+-- a call with this s of a program that puts this pointer into s and returns, then a LOAD through s; word 6 holds 77
+abbrev calledWith : Pointer → Pointer → Question
+calledWith s p =
+    running 4 (pointing 1 s (pointing 4 p caller))
+    (sceneMemory (fill 40 0 (listing 0x00001000 0 5 ++ 0x01001000 ∷ 77 ∷ []) ++ 0x05014000 ∷ 0x09000003 ∷ []))
+
 -- a call with n arguments, then the called domain's LOAD of word k of the list
 abbrev listWordOf : ℕ → ℕ → Question
 listWordOf n k = running 2 caller (sceneMemory (fill 40 0 (callMany n) ++ (0x01000000 + k) ∷ []))
@@ -48,6 +67,7 @@ argumentUsed mode w =
 abbrev longest : Machine
 longest = machineOf (record { lengths = 4096 ∷ 4096 ∷ []; gates = []; rights = (4 ∷ 4 ∷ []) ∷ []; capabilities = [] })
 
+-- the memory of a call, the last words of a fetch, and each check of a call through a gate
 abbrev pub gateRows : List Row
 gateRows =
     (running 0 caller (replicate 8192 0) gives ok (0 ∷ [])) ∷
@@ -58,9 +78,18 @@ gateRows =
     (running 2 (locatedAt 0 4095 0 longest) (replicate 4095 0 ++ sceneMemory (0x0C000001 ∷ [])) gives refuse 21) ∷
     (calling caller (callMany 8) gives ok (0 ∷ [])) ∷
     (calling caller (callMany 9) gives refuse 30) ∷
+    (callListing 256 0 gives refuse 30) ∷
+    (callListing 0x80000000 0 gives refuse 30) ∷
+    (callListing 0 0x80000000 gives refuse 30) ∷
+    (callListing 0 0x80010000 gives refuse 26) ∷
+    (callAt 4093 gives ok (0 ∷ [])) ∷
+    (callAt 4094 gives refuse 23) ∷
+    (calledWith (taggedTo 0 6) (untaggedTo 0 6) gives refuse 24) ∷
+    (calledWith (untaggedTo 0 6) (taggedTo 0 6) gives ok (77 ∷ [])) ∷
     (calling (inFrames (replicate 7 lending) caller) (callMany 0) gives ok (0 ∷ [])) ∷
     (calling (inFrames (replicate 8 lending) caller) (callMany 0) gives refuse 31) ∷
     (calling caller (callOn 0x00001001 0 0 0) gives refuse 29) ∷
+    (calling caller (callOn 0x00001002 0 0 0) gives refuse 21) ∷
     (calling (relaid (rightTo 1 3) caller) (callMany 0) gives refuse 22) ∷
     (running 2 (relaid (stackTo 1 1) (relaid (rightTo 17 5) caller)) (sceneMemory (fill 40 0 (callMany 0) ++ 0x01002001 ∷ 7 ∷ [])) gives ok (7 ∷ [])) ∷
     (listWordOf 0 2 gives ok (0 ∷ [])) ∷

@@ -3,7 +3,7 @@ use Prim.Native.Nat.{ℕ}
 use mathlib.Core.Bool.{Bool}
 use mathlib.Core.List.{List, [], _∷_}
 use lib.IntN.{ℤ}
-use Rattle.words.specs.Answer.{Answer, refuse, ok, _>>=_}
+use Rattle.words.specs.Answer.{Answer, refuse, ok, _>>=_, numberOf}
 use Rattle.words.specs.Bit.{bit}
 use Rattle.words.specs.PointerWord.{pointerOf}
 use Rattle.words.specs.Offset.{displacedOf, literalOf}
@@ -11,14 +11,18 @@ use Rattle.words.specs.InstructionWord.{instructionOf}
 use Rattle.words.specs.declared.pointer.Pointer.{Pointer}
 use Rattle.state.specs.declared.record.Machine.{Machine}
 use Rattle.state.specs.Record.{inUse, liveFrame}
+use Rattle.segments.specs.Segment.{segmentCheck, partStart, partSize}
+use Rattle.references.specs.declared.flag.Flag.{Flag}
 use Rattle.references.specs.declared.flag.Access.the-variants as access
 use Rattle.references.specs.Live.{passedOf}
-use Rattle.record_checks.specs.Judged.{judgedCheck}
+use Rattle.record_checks.specs.Judged.{judgedStatic, judgedCheck}
 use Rattle.runs.specs.Run.{Ran, Ending, halted, spent, crossed, faulted, refused}
 use Rattle.processor.specs.Calls.{runCall}
+use Rattle.isolation.specs.Visible.{maySee, couldWrite}
 use Rattle.readings.specs.Scene.{Scene, machineOf, sceneMemory}
 use Rattle.readings.specs.Change.{startOf}
 
+-- what a row may ask: words taken apart, the checks of a reference, seeing and writing, the host's segments, and runs
 pub data Question : Type 0 where
   pointer : ℕ → Question
   instruction : ℕ → Question
@@ -26,6 +30,9 @@ pub data Question : Type 0 where
   reading : Scene → Pointer → Question
   writing : Scene → Pointer → Question
   passing : Scene → Pointer → ℕ → Bool → Bool → Question
+  permitting : Machine → ℕ → Flag → ℕ → ℕ → Question
+  reaching : Machine → ℕ → ℕ → Question
+  part : Machine → ℕ → ℕ → Question
   running : ℕ → Machine → List ℕ → Question
 
 -- one instruction of a scene's machine with this A and this pointer in register 0, over a memory that begins with these words
@@ -61,6 +68,12 @@ answer (reading s p) = judgedCheck (machineOf s) access.Read p >>= (λ i. ok (i 
 answer (writing s p) = judgedCheck (machineOf s) access.Write p >>= (λ i. ok (i ∷ []))
 -- the source
 answer (passing s p length read write) = passed (machineOf s) p length read write >>= (λ d. ok (d ∷ []))
+-- the index of the word, for a domain and a flag
+answer (permitting m domain flag segment word) = judgedStatic m domain flag segment word >>= (λ i. ok (i ∷ []))
+-- may see, could write
+answer (reaching m segment word) = ok (bit (maySee m segment word) ∷ bit (couldWrite m segment word) ∷ [])
+-- of a segment in a memory of so many words: the number that the host gets, the start and the size of its part
+answer (part m size number) = ok (numberOf (segmentCheck m size number) ∷ partStart m size number ∷ partSize m size number ∷ [])
 -- A after at most so many instructions
 answer (running limit m words) = lastA (runCall limit m words)
 

@@ -1,4 +1,4 @@
--- Small machines for the readings: a few segments and domains, and at most one frame.
+-- Small machines for the readings: a few segments, domains and frames.
 use Prim.Native.Nat.{ℕ}
 use mathlib.Core.Bool.{Bool, true, false}
 use mathlib.Core.List.{List, [], _∷_, _++_}
@@ -40,10 +40,12 @@ writeOn segment word length source = grant segment word length source false true
 abbrev pub fill : {A : Type 0} → ℕ → A → List A → List A
 fill n d xs = take n (xs ++ replicate n d)
 
+-- the rights of each domain in a row of 16
 abbrev rows : List (List ℕ) → List ℕ
 rows [] = []
 rows (r ∷ rs) = fill 16 0 r ++ rows rs
 
+-- the layout of a scene: its start is word 0 of segment 0 in domain 0, and all stacks are segment 0
 abbrev sceneLayout : Scene → Layout
 sceneLayout s =
     record {
@@ -65,9 +67,13 @@ frameWith count cs s back domain = record { capabilities = fill 9 noCapability c
 abbrev pub sceneFrame : List Capability → Frame
 sceneFrame cs = frameWith (length cs) cs noPointer noPointer 0
 
--- a frame of one capability
+-- a capability that is sound in every machine
+abbrev pub lent : Capability
+lent = readOn 0 0 1 0
+
+-- a frame of that one capability
 abbrev pub lending : Frame
-lending = sceneFrame (readOn 0 0 1 0 ∷ [])
+lending = sceneFrame (lent ∷ [])
 
 -- the machine with these frames in use
 abbrev pub inFrames : List Frame → Machine → Machine
@@ -79,6 +85,7 @@ abbrev sceneFrames : List Capability → List Frame
 sceneFrames [] = []
 sceneFrames (c ∷ cs) = sceneFrame (c ∷ cs) ∷ []
 
+-- the fresh machine of a scene's layout, in its frame
 abbrev pub machineOf : Scene → Machine
 machineOf s = inFrames (sceneFrames (s .capabilities)) (freshOf (sceneLayout s))
 

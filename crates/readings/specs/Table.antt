@@ -10,6 +10,7 @@ use Rattle.readings.specs.Question.{Row, pointer, instruction, displace,
 use Rattle.readings.specs.Word.{wordRows}
 use Rattle.readings.specs.Effect.{effectRows}
 use Rattle.readings.specs.Gate.{callOn, gateRows}
+use Rattle.readings.specs.Reach.{reachRows}
 use Rattle.readings.specs.Border.{borders}
 
 -- a segment of 10 words, on which the domain has the rights r
@@ -57,6 +58,7 @@ abbrev underRights : (ℕ → Row) → List Row
 underRights f =
     f 0 ∷ f 1 ∷ f 2 ∷ f 3 ∷ f 4 ∷ f 5 ∷ f 6 ∷ f 7 ∷ f 8 ∷ f 9 ∷ f 10 ∷ f 11 ∷ f 12 ∷ f 13 ∷ f 14 ∷ f 15 ∷ []
 
+-- the readings of the paper, then the other rows by what they ask
 abbrev pub table : List Row
 table =
     (pointer 0x80001005 gives ok (1 ∷ 1 ∷ 5 ∷ [])) ∷
@@ -103,4 +105,5 @@ table =
     wordRows ++
     effectRows ++
     gateRows ++
+    reachRows ++
     borders

@@ -20,6 +20,7 @@ maskedFrom low opcode fields =
 abbrev addressed : ℕ → List ℕ
 addressed register = register ∷ 7 ∷ 1 ∷ 4294967295 ∷ []
 
+-- each field of a pointer word and of an instruction word, each opcode's mask, and the sums at the ends of 0-4,095
 abbrev pub wordRows : List Row
 wordRows =
     (pointer 0x8000FFFF gives ok (1 ∷ 15 ∷ 4095 ∷ [])) ∷
@@ -38,6 +39,8 @@ wordRows =
     maskedFrom 16 11 (addressed 0) ++
     maskedFrom 12 12 (0 ∷ 0 ∷ 0 ∷ 4294967295 ∷ []) ++
     (instruction 0x0D000000 gives refuse 27) ∷
+    (instruction 0xFF000000 gives refuse 27) ∷
+    eachBit 28 4 (λ b. instruction (0x01000000 + b) gives refuse 27) ++
     (instruction 0x010007FF gives ok (1 ∷ 0 ∷ 0 ∷ 0 ∷ 2047 ∷ [])) ∷
     (instruction 0x01000800 gives ok (1 ∷ 0 ∷ 0 ∷ 0 ∷ 4294965248 ∷ [])) ∷
     (displace 4094 (pos 1) gives ok (4095 ∷ [])) ∷

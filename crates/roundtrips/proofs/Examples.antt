@@ -1,5 +1,5 @@
 -- The image of the paper's readings, and a refusal of each number, computed.
-use Prim.Native.Nat.{ℕ}
+use Prim.Native.Nat.{ℕ, _/_, _%_}
 use mathlib.Core.Path.{_≡_, refl}
 use mathlib.Core.List.{List, [], _∷_, _++_}
 use lib.ListN.{take, replicate, set}
@@ -34,7 +34,15 @@ accepted : imageOf example ≡ ok exampleImage
 unfolding imageOf headOf headBody headFields chunkOf headerOf pairOf wordOf wordsOf pointerOf field segmentsOf segmentOf segmentLength segmentBody segmentFields domainsOf domainOf domainBody allRights endOf
 accepted = refl
 
--- the image cut short, and with one byte changed
+-- the header of a segment's chunk, whose body has this length
+abbrev segmentHeader : ℕ → List ℕ
+segmentHeader n = (n % 256) ∷ (n / 256) ∷ 2 ∷ 0 ∷ []
+
+-- three segments of 4,096 words, 1 word, and a body of n bytes that is missing
+abbrev manyWords : ℕ → List ℕ
+manyWords n = set (take 12 example) 4 3 ++ segmentHeader 16388 ++ replicate 16388 0 ++ segmentHeader 8 ++ replicate 8 0 ++ segmentHeader n
+
+-- the image cut short, and with one byte changed; at 8,193 words and at 8,192; the memory too short
 refusals : List (Answer Image)
 refusals =
     imageOf [] ∷
@@ -46,11 +54,13 @@ refusals =
     imageOf (set example 16 2) ∷
     imageOf (set example 11 128) ∷
     imageOf (set example 29 16) ∷
+    imageOf (manyWords 16388) ∷
+    imageOf (manyWords 16384) ∷
     imageOf (example ++ (0 ∷ [])) ∷
     readImage [] (replicate 8191 0) ∷
     []
 
 numbers : refusals ≡
-    refuse 1 ∷ refuse 1 ∷ refuse 1 ∷ refuse 2 ∷ refuse 3 ∷ refuse 1 ∷ refuse 4 ∷ refuse 4 ∷ refuse 4 ∷ refuse 6 ∷ refuse 7 ∷ []
+    refuse 1 ∷ refuse 1 ∷ refuse 1 ∷ refuse 2 ∷ refuse 3 ∷ refuse 1 ∷ refuse 4 ∷ refuse 4 ∷ refuse 4 ∷ refuse 5 ∷ refuse 1 ∷ refuse 6 ∷ refuse 7 ∷ []
 unfolding refusals imageOf headOf headBody headFields chunkOf headerOf pairOf wordOf wordsOf pointerOf field segmentsOf segmentOf segmentLength segmentBody segmentFields domainsOf domainOf domainBody allRights endOf readImage
 numbers = refl
