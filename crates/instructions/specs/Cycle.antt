@@ -31,10 +31,11 @@ eventAnswer r pointers (event.Entering p) = ok (entering p)
 eventAnswer r pointers (event.Leaving p) = ok (leaving p)
 eventAnswer r pointers (event.Faulted n) = refuse n
 
+-- the same of a cycle's answer, with the registers in it
 abbrev pub cycleAnswer : List Pointer → Cycle → Answer Progress
 cycleAnswer pointers t = eventAnswer (t .registers) pointers (t .event)
 
--- where nothing moved, the registers are those that came in
+-- the registers s after an event: those that came in, r, unless the instruction moved on
 abbrev pub staysBy : Registers → Registers → Event → Type 0
 staysBy r s event.Moved = Unit {0}
 staysBy r s (event.Pointed i p) = Unit {0}
@@ -43,6 +44,7 @@ staysBy r s (event.Entering p) = s ≡ r
 staysBy r s (event.Leaving p) = s ≡ r
 staysBy r s (event.Faulted n) = s ≡ r
 
+-- the same of a cycle's answer
 abbrev pub Stays : Registers → Cycle → Type 0
 Stays r t = staysBy r (t .registers) (t .event)
 
