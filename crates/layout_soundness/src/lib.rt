@@ -1,5 +1,6 @@
 // When a layout is sound.
 ghost use mathlib.Core.Path.{_≡_};
+ghost use mathlib.Core.Bool.{_&&_};
 ghost use lib.ListN.{getD};
 ghost use Rattle.layout_soundness.specs.SoundLayout.{allFrom, segmentTest, stackTest, rightsTest, startTest, layoutTest};
 use state::bases::words_in;
@@ -87,18 +88,24 @@ fn right_sound(segments: u8, domains: u8, i: u8, rights: u8) -> bool
     rights <= 15
 }
 
+fn both(a: bool, b: bool) -> bool
+    ensures { λ r. ⌜ r ≡ (a && b) ⌝ }
+{
+    if a { b } else { false }
+}
+
+// There is no early end, so that the compiler takes many rights at a time.
 fn rights_sound(segments: u8, domains: u8, rights: &[u8; 128]) -> bool
     ensures { λ r. ⌜ r ≡ allFrom 128 0 (λ i. rightsTest segments domains i (getD (now (rights .entry)) i 0)) ⌝ }
 {
+    let mut all = true;
     let mut i = 0u8;
     while i < 128 {
         let k = i as usize;
-        if !right_sound(segments, domains, i, rights[k]) {
-            return false;
-        }
+        all = both(all, right_sound(segments, domains, i, rights[k]));
         i += 1;
     }
-    true
+    all
 }
 
 fn start_sound(segments: u8, domains: u8, start: Start) -> bool

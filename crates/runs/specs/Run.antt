@@ -51,6 +51,10 @@ judged m words = if soundTest m then (if leb 8192 (length words) then 0 else mem
 unfoldable pub calledOf : (Machine → List ℕ → Ran) → Machine → List ℕ → Ran
 calledOf run m words = if eqb (judged m words) 0 then run m words else ran m words 0 (refused (judged m words))
 
+-- a run of a record that was judged before; one with more than eight frames in use, which no sound record has, is refused
+unfoldable pub judgedRun : (Machine → List ℕ → Ran) → Machine → List ℕ → Ran
+judgedRun run m words = if leb (m .depth) 8 then run m words else ran m words 0 (refused notSound)
+
 -- what the code's answers stand for
 abbrev pub endAnswer : End → Ending
 endAnswer end.Halted = halted

@@ -4,7 +4,7 @@ mod resume;
 mod running;
 
 ghost use mathlib.Core.Path.{_≡_};
-ghost use Rattle.runs.specs.Run.{runFrom, judged, calledOf, ranAnswer};
+ghost use Rattle.runs.specs.Run.{runFrom, judged, calledOf, judgedRun, ranAnswer};
 use crate::outcome::End;
 use crate::outcome::Outcome;
 use crate::running::run_on;
@@ -37,4 +37,18 @@ pub fn call(m: Machine, words: &mut [u32], limit: u16, stretch: bool) -> Outcome
         };
     }
     run_on(m, words, limit, stretch)
+}
+
+// The same of a record and words that were judged; a record with more frames in use than there are is refused.
+pub fn run_judged(m: Machine, words: &mut [u32], limit: u16, stretches: bool) -> Outcome
+    ensures { λ o. ⌜ ranAnswer o (now (words .exit)) ≡ judgedRun (runFrom stretches limit 0) m (now (words .entry)) ⌝ }
+{
+    if 8 < m.depth {
+        return Outcome {
+            machine: m,
+            count: 0,
+            end: End::Refused(9),
+        };
+    }
+    run_on(m, words, limit, stretches)
 }

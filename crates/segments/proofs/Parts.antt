@@ -19,6 +19,7 @@ pub record Given (m : Machine) (size number : ℕ) : Type 0 where
   pub accepted : segmentCheck m size number ≡ ok tt
   pub row : number < 16
   pub short : getD (m .layout .lengths) number 0 ≤ 4096
+  pub within : baseOf (m .layout .lengths) number + getD (m .layout .lengths) number 0 ≤ 8192
   pub room : baseOf (m .layout .lengths) number + getD (m .layout .lengths) number 0 ≤ size
 
 -- three tests that are passed
@@ -39,11 +40,13 @@ given m size number n q z =
     let l : 8192 ≤ size = leb-true _ _ (t .1 .0) in
     let k : number < m .layout .segments = ltb-true _ _ (t .1 .1) in
     let h : number < 16 = omega (arith, s .segments) in
+    let w : baseOf (m .layout .lengths) number + getD (m .layout .lengths) number 0 ≤ 8192 = omega (arith, s .words, base-apart (m .layout .lengths) number 16 h) in
     record {
       accepted = simp (t .0, t .1 .0, t .1 .1);
       row = h;
       short = s .lengths number h;
-      room = omega (arith, s .words, base-apart (m .layout .lengths) number 16 h);
+      within = w;
+      room = omega (arith, w, l);
     }
 
 module _ (m : Machine) (size number : ℕ) where

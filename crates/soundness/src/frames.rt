@@ -9,7 +9,7 @@ use crate::registers::pointer_empty;
 use crate::registers::pointer_sound;
 use state::record::Frame;
 
-fn frame_sound(domains: u8, f: Frame) -> bool
+pub fn frame_sound(domains: u8, f: Frame) -> bool
     ensures { λ r. ⌜ r ≡ frameTest domains f ⌝ }
 {
     if f.count < 1 {

@@ -1,7 +1,7 @@
 // When a machine record is sound (well-formed).
 mod capabilities;
-mod frames;
-mod registers;
+pub mod frames;
+pub mod registers;
 
 ghost use mathlib.Core.Path.{_≡_};
 ghost use Rattle.soundness.specs.Sound.{soundTest};
