@@ -1,2 +1,0 @@
-pub mod Tabulate
-pub mod Write

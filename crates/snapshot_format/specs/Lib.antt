@@ -1,0 +1,4 @@
+pub mod Tabulate
+pub mod Format
+pub mod RecordForm
+pub mod Statements
