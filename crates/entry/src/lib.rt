@@ -1,4 +1,4 @@
-// The call for firmware in C: an image is run in a memory of its own, and four bytes tell how it ended.
+// An image is run in a memory of its own, and four bytes tell how it ended.
 pub mod image_run;
 
 ghost use mathlib.Core.Path.{_≡_};
@@ -48,8 +48,7 @@ fn put_result(result: &mut [u8], ending: u8, fault: u8, count: u16)
 }
 
 // Runs at most limit instructions of an image, and puts ending, fault and count into the result's first four bytes. Gives 0, or the number of the refusal.
-#[no_mangle]
-pub extern "C" fn zenkorv_entry(image: &[u8], limit: u16, result: &mut [u8]) -> u8
+pub fn run_to_result(image: &[u8], limit: u16, result: &mut [u8]) -> u8
     ensures { λ r. ⌜ r ≡ numberOf (entryOf (now (image .entry)) limit (now (result .entry))) ⌝ }
     ensures { λ r. ⌜ now (result .exit) ≡ outputAfter (now (result .entry)) (entryOf (now (image .entry)) limit (now (result .entry))) ⌝ }
 {

@@ -1,3 +1,6 @@
-pub mod Reading
-pub mod Running
-pub mod Writing
+pub mod JudgeLaws
+pub mod LookLaws
+pub mod OpenLaws
+pub mod ReadLaws
+pub mod RunLaws
+pub mod WriteLaws

@@ -1,3 +1,6 @@
-pub mod Check
-pub mod Images
+pub mod Opened
 pub mod Runs
+pub mod Images
+pub mod Looks
+pub mod Private
+pub mod Statements

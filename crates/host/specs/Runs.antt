@@ -1,38 +1,60 @@
--- What the library answers about runs.
+-- Runs, stretches and steps of the record that bytes hold.
 use Prim.Native.Nat.{ℕ, _+_, _*_}
-use mathlib.Core.Bool.{Bool}
 use mathlib.Core.List.{List}
-use lib.Dec.{leb, eqb}
-use lib.ListN.{length}
-use Rattle.words.specs.Answer.{if_then_else_}
-use Rattle.words.specs.Numbers.{outputTooShort}
+use lib.Dec.{eqb}
+use Rattle.words.specs.Answer.{Answer, refuse, ok, _>>=_, if_then_else_}
+use Rattle.words.specs.Bit.{bit}
 use Rattle.state.specs.declared.record.Machine.{Machine}
-use Rattle.snapshot_reader.specs.Read.{recordOf}
-use Rattle.snapshot_writer.specs.Write.{writtenTo}
-use Rattle.runs.specs.Run.{Ending, halted, spent, crossed, faulted, refused, Ran, ran}
-use Rattle.processor.specs.Calls.{runCall, stretchCall}
-
--- a run, or a stretch
-unfoldable pub ranBy : Bool → ℕ → Machine → List ℕ → Ran
-ranBy stretch limit m words = if stretch then stretchCall limit m words else runCall limit m words
-
--- the same of the record that bytes hold; 8 where they have no room for a record
-unfoldable pub ranOn : List ℕ → List ℕ → ℕ → ℕ → Ran
-ranOn bytes words limit stretch =
-    if leb 919 (length bytes) then ranBy (eqb stretch 1) limit (recordOf bytes) words else ran (recordOf bytes) words 0 (refused outputTooShort)
+use Rattle.snapshot_format.specs.RecordForm.{withRecord}
+use Rattle.runs.specs.Run.{Ending, halted, spent, crossed, faulted, refused, Ran}
+use Rattle.processor.specs.Calls.{Step}
+use Rattle.host.specs.Opened.{opened}
 
 -- an ending as a number: its kind in bits 24 on, the number of a fault or a refusal in bits 16-23
 abbrev pub endCode : Ending → ℕ
 endCode halted = 0
-endCode (faulted n) = 16777216 + n * 65536
-endCode spent = 33554432
-endCode crossed = 50331648
-endCode (refused n) = 67108864 + n * 65536
+endCode (faulted n) = 0x1000000 + n * 0x10000
+endCode spent = 0x2000000
+endCode crossed = 0x3000000
+endCode (refused n) = 0x4000000 + n * 0x10000
 
--- the ending, and the count in bits 0-15
-abbrev pub ranCode : Ran → ℕ
-ranCode r = endCode (r .ending) + r .count
+-- a call on the record that bytes hold, and the words
+unfoldable pub ranOn : (Machine → List ℕ → Ran) → List ℕ → List ℕ → Answer Ran
+ranOn call bytes words = opened bytes >>= (λ m. ok (call m words))
 
--- the record as it is written back
-abbrev pub bytesAfter : List ℕ → Ran → List ℕ
-bytesAfter bytes r = writtenTo bytes (r .machine)
+-- its ending, and the count in bits 0-15
+abbrev pub ranCode : Answer Ran → ℕ
+ranCode (refuse n) = endCode (refused n)
+ranCode (ok r) = endCode (r .ending) + r .count
+
+-- a refused call leaves the bytes
+abbrev pub endedBytes : List ℕ → Machine → Ending → List ℕ
+endedBytes bytes m halted = withRecord bytes m
+endedBytes bytes m (faulted n) = withRecord bytes m
+endedBytes bytes m spent = withRecord bytes m
+endedBytes bytes m crossed = withRecord bytes m
+endedBytes bytes m (refused n) = bytes
+
+abbrev pub ranBytes : List ℕ → Answer Ran → List ℕ
+ranBytes bytes (refuse n) = bytes
+ranBytes bytes (ok r) = endedBytes bytes (r .machine) (r .ending)
+
+abbrev pub ranWords : List ℕ → Answer Ran → List ℕ
+ranWords words (refuse n) = words
+ranWords words (ok r) = r .words
+
+-- the same of a step: its number, and in bit 8 whether it halted; one that was refused or faulted leaves the bytes
+unfoldable pub steppedOn : (Machine → List ℕ → Step) → List ℕ → List ℕ → Answer Step
+steppedOn call bytes words = opened bytes >>= (λ m. ok (call m words))
+
+abbrev pub stepCode : Answer Step → ℕ
+stepCode (refuse n) = n
+stepCode (ok s) = s .number + bit (s .halted) * 256
+
+abbrev pub stepBytes : List ℕ → Answer Step → List ℕ
+stepBytes bytes (refuse n) = bytes
+stepBytes bytes (ok s) = if eqb (s .number) 0 then withRecord bytes (s .machine) else bytes
+
+abbrev pub stepWords : List ℕ → Answer Step → List ℕ
+stepWords words (refuse n) = words
+stepWords words (ok s) = s .words
