@@ -1,4 +1,4 @@
-/* The call of the multidomain processor for firmware in C. */
+/* The calls of the multidomain processor for firmware in C. Needs C99 or later, or C++11. */
 #ifndef ZENKORV_H
 #define ZENKORV_H
 
@@ -9,27 +9,30 @@
 extern "C" {
 #endif
 
-/* What zenkorv_entry returns. */
-enum zenkorv_returned {
-    ZENKORV_OK = 0,              /* the image was run */
-    ZENKORV_CUT_SHORT = 1,       /* chunk header or body cut short */
-    ZENKORV_WRONG_KIND = 2,      /* kind not the one due */
-    ZENKORV_WRONG_LENGTH = 3,    /* length wrong for the kind */
-    ZENKORV_BAD_FIELD = 4,       /* a field outside its range */
-    ZENKORV_TOO_MANY_WORDS = 5,  /* words pass 8,192 */
-    ZENKORV_BYTES_LEFT = 6,      /* bytes after kind 4 */
-    ZENKORV_OUTPUT_TOO_SHORT = 8 /* result of fewer than 4 bytes; before the image's refusals */
-};
+#define ZENKORV_VERSION_MAJOR 1
+#define ZENKORV_VERSION_MINOR 0
+#define ZENKORV_VERSION_PATCH 0
+#define ZENKORV_VERSION "1.0.0"
 
-/* Byte 0 of the result: how the run ended. */
-enum zenkorv_ending {
-    ZENKORV_HALTED = 0,  /* at a HALT, which is counted */
-    ZENKORV_FAULTED = 1, /* at an instruction that faults, which is not counted */
-    ZENKORV_SPENT = 2    /* at the limit: the count equals it */
-};
+/* A machine is a record of so many bytes and a memory of so many words. The firmware keeps them and lends them to calls. */
+#define ZENKORV_RECORD_BYTES 919
+#define ZENKORV_MEMORY_WORDS 8192
 
-/* Byte 1 of the result where the run ended as faulted; else that byte is 0. */
-enum zenkorv_fault {
+/* The longest image that can be accepted, and the longest that is written, in bytes. */
+#define ZENKORV_LONGEST_IMAGE 33080
+
+/* The numbers of refusals, 1 to 9, and of faults, 21 to 32. */
+enum zenkorv_number {
+    ZENKORV_OK = 0,
+    ZENKORV_CUT_SHORT = 1,        /* chunk header or body cut short */
+    ZENKORV_WRONG_KIND = 2,       /* kind not the one due */
+    ZENKORV_WRONG_LENGTH = 3,     /* length wrong for the kind */
+    ZENKORV_BAD_FIELD = 4,        /* a field outside its range */
+    ZENKORV_TOO_MANY_WORDS = 5,   /* words pass 8,192 */
+    ZENKORV_BYTES_LEFT = 6,       /* bytes after kind 4 */
+    ZENKORV_MEMORY_TOO_SHORT = 7, /* fewer than 8,192 words lent */
+    ZENKORV_OUTPUT_TOO_SHORT = 8, /* output or record too short */
+    ZENKORV_NOT_SOUND = 9,        /* the bytes are those of no sound record */
     ZENKORV_NO_WORD = 21,         /* no such segment or word */
     ZENKORV_FLAG_MISSING = 22,    /* flag missing */
     ZENKORV_OUT_OF_RANGE = 23,    /* a word number leaves 0-4,095 */
@@ -44,19 +47,191 @@ enum zenkorv_fault {
     ZENKORV_BAD_RETURN = 32       /* tagged RET with no frame or another place or s */
 };
 
-/* The longest image that can be accepted, in bytes. */
-#define ZENKORV_LONGEST_IMAGE 33080
+/* How a run or a stretch ended. */
+enum zenkorv_ending {
+    ZENKORV_HALTED = 0,     /* at a HALT, which is counted */
+    ZENKORV_FAULTED = 1,    /* at an instruction that faults, which is not counted */
+    ZENKORV_SPENT = 2,      /* at the limit: the count equals it */
+    ZENKORV_CROSSED = 3,    /* a stretch: right after a crossing, which is counted */
+    ZENKORV_RUN_REFUSED = 4 /* nothing was run: the count is 0 */
+};
 
 /*
- * Runs at most limit instructions of an image, in a memory of its own.
+ * What C must keep, for no proof can see it:
  *
- * Returns 0 and puts ending, fault and count (2 bytes, little-endian) into the first four bytes of the result; bytes past
- * the fourth stay. Or returns a refusal's number, and the result stays as it was.
+ * - A slice is a pointer and a length, in elements. Each pointer is valid for its length and aligned for its type. It is
+ *   not null, even where the length is 0: nothing tests for null.
+ * - The slices of one call do not overlap. *first and *count of zenkorv_segment are distinct and outside of its slices.
+ * - Nobody else writes what is lent while a call lasts, nor reads what the call may write.
  *
- * A slice is a pointer and a length. C must keep what no proof can see: each pointer is valid for its length, neither is
- * null, even where the length is 0, and the two slices do not overlap.
+ * Any bytes may be lent as a record, and any words as a memory: each call judges them. Slices may be longer than asked
+ * for; bytes past the 919th and words past the last segment stay. A refused call leaves every byte and word as it was.
+ *
+ * Threads and interrupts: no call keeps a pointer, uses a static or the heap. Calls on different machines may run at the
+ * same time; a machine is in one call at a time. An interrupt may come during a call if its handler leaves the slices of
+ * that call alone; the handler may make calls on another machine, if the stack has room for both. Nothing stops a run from
+ * outside: choose the limit by the time that the firmware can wait. Between two calls it may write the words as it likes.
+ */
+
+/* The bytes of stack that each call needs on x86-64, its return address included: the bound of tools/stack, rounded up
+   with 128 to 255 bytes to spare. Another processor, or another compiler, needs its own figures. */
+#define ZENKORV_STACK_READ 3840
+#define ZENKORV_STACK_RUN 4992
+#define ZENKORV_STACK_STRETCH 4992
+#define ZENKORV_STACK_STEP 4992
+#define ZENKORV_STACK_WRITE 2816
+#define ZENKORV_STACK_SEGMENT 2688
+#define ZENKORV_STACK_CHECK 3456
+#define ZENKORV_STACK_RESTART 3712
+#define ZENKORV_STACK_ENTRY 37760
+
+/*
+ * The record's bytes. Numbers are little-endian, flags are 0 or 1, rows that are not in use are zeros. The firmware may
+ * keep and copy the bytes, and read them; a record that was changed is refused with 9 unless it is sound.
+ *
+ *     at  bytes  what
+ *      0  16 x 2  length of each segment, in words
+ *     32  16 x 2  gates of each segment
+ *     64  4       start: word (2), segment, domain
+ *     68  16 x 1  gate domain of each segment
+ *     84  8 x 1   stack segment of each domain
+ *     92  8 x 16  rights of each domain on each segment: R 1, W 2, E 4, G 8
+ *    220  1       number of segments
+ *    221  1       number of domains
+ *    222  4       A
+ *    226  2       word of the location, 0-4,096
+ *    228  1       segment of the location
+ *    229  1       executing domain
+ *    230  8 x 4   pointers, 0 is a, 1 is s, 2 is b: word (2), segment, tag
+ *    262  1       number of frames in use
+ *    263  8 x 82  frames, the oldest first: number of capabilities; nine of 8 bytes: word (2), length (2), segment, source,
+ *                 read, write; s (4) and return location (4) as pointers; calling domain
+ */
+#define ZENKORV_AT_LENGTHS 0
+#define ZENKORV_AT_SEGMENTS 220
+#define ZENKORV_AT_DOMAINS 221
+#define ZENKORV_AT_A 222
+#define ZENKORV_AT_WORD 226
+#define ZENKORV_AT_SEGMENT 228
+#define ZENKORV_AT_DOMAIN 229
+#define ZENKORV_AT_POINTERS 230
+#define ZENKORV_AT_FRAMES_IN_USE 262
+#define ZENKORV_AT_FRAMES 263
+#define ZENKORV_POINTER_BYTES 4
+#define ZENKORV_FRAME_BYTES 82
+
+/*
+ * Reads an image into a record and a memory. What they held before does not matter.
+ *
+ * Returns 0: the record is the fresh machine of the image, the image's words stand from word 0 on. Or a refusal: 8 where
+ * the record has fewer than 919 bytes, then 7, then 1 to 6 for the image, which ends where its slice ends.
+ */
+uint8_t zenkorv_read(const uint8_t *image, size_t image_length, uint8_t *record, size_t record_length, uint32_t *words,
+                     size_t word_count);
+
+/*
+ * Runs at most limit instructions from where the record stands. Called again, it goes on from there; a halted machine
+ * executes its HALT again, one that faulted the instruction that faults.
+ *
+ * The answer is taken apart by the macros: the ending; the number of a fault or a refusal, else 0; the count of the
+ * instructions completed. A run that faults leaves record and words as before the instruction. Refusals: 8, then 9,
+ * then 7.
+ */
+uint32_t zenkorv_run(uint8_t *record, size_t record_length, uint32_t *words, size_t word_count, uint16_t limit);
+
+/* The same, and also stops right after the first completed crossing: a CALL through a gate, or a RET to the caller. */
+uint32_t zenkorv_stretch(uint8_t *record, size_t record_length, uint32_t *words, size_t word_count, uint16_t limit);
+
+#define ZENKORV_RUN_ENDING(r) ((r) >> 24)
+#define ZENKORV_RUN_NUMBER(r) (((r) >> 16) & 0xFF)
+#define ZENKORV_RUN_COUNT(r) ((r) & 0xFFFF)
+
+/*
+ * Executes one instruction. The answer has the number of its fault or of the refusal (8, then 9, then 7), or 0 where it
+ * was completed, and whether it was a HALT. A step that faults leaves record and words.
+ */
+uint16_t zenkorv_step(uint8_t *record, size_t record_length, uint32_t *words, size_t word_count);
+
+#define ZENKORV_STEP_NUMBER(r) ((r) & 0xFF)
+#define ZENKORV_STEP_HALTED(r) (((r) >> 8) & 1)
+
+/*
+ * Writes the image of a machine: its layout with its start, and its words as they are. Registers and frames are in no
+ * image; to keep a machine in the middle of a run, keep the record and the words.
+ *
+ * Returns the image's length, at most 33,080; bytes of the output past it stay. Or a refusal, see ZENKORV_REFUSED: 8 for
+ * the record, then 9, then 7, then 8 for an output shorter than the image.
+ */
+uint32_t zenkorv_write(const uint8_t *record, size_t record_length, const uint32_t *words, size_t word_count,
+                       uint8_t *output, size_t output_length);
+
+/*
+ * Tells where a segment lies: word k of it is words[*first + k], for k below *count.
+ *
+ * Returns 0, or 8, then 9, then 7, then 21 where there is no such segment; *first and *count then stay.
+ */
+uint8_t zenkorv_segment(const uint8_t *record, size_t record_length, const uint32_t *words, size_t word_count,
+                        uint8_t segment, uint16_t *first, uint16_t *count);
+
+/*
+ * Tells whether the executing domain may refer to a word: where tag is 0, by its rights; where it is another number, by
+ * the capabilities of the newest frame. It asks to read where write is 0, else to write.
+ *
+ * Returns the word's index in words. Or a refusal, see ZENKORV_REFUSED: 8, then 9, then 21 or 22 without the tag, 24 or
+ * 25 with it.
+ */
+uint32_t zenkorv_check(const uint8_t *record, size_t record_length, uint8_t write, uint8_t tag, uint8_t segment,
+                       uint16_t word);
+
+/* What zenkorv_write and zenkorv_check return: whether it is a refusal, and then its number. */
+#define ZENKORV_REFUSED(r) ((r) > 0xFFFF)
+#define ZENKORV_REFUSAL(r) ((r) & 0xFF)
+
+/*
+ * Makes the record the fresh machine of its layout: start, registers, no frames. Words are no part of it, and stay.
+ *
+ * Returns 0, or 8, then 9.
+ */
+uint8_t zenkorv_restart(uint8_t *record, size_t record_length);
+
+/*
+ * Runs at most limit instructions of an image, in a memory of its own, which lies on the stack.
+ *
+ * Returns 0 and puts ending (halted, faulted or spent), fault or 0, and count (2 bytes, little-endian) into the first
+ * four bytes of the result; bytes past the fourth stay. Or returns a refusal: 8 where the result has fewer than 4 bytes,
+ * then 1 to 6 for the image.
  */
 uint8_t zenkorv_entry(const uint8_t *image, size_t image_length, uint16_t limit, uint8_t *result, size_t result_length);
+
+/* A number in words, to be printed. */
+static inline const char *zenkorv_name(uint8_t number)
+{
+    switch (number) {
+    case ZENKORV_OK: return "ok";
+    case ZENKORV_CUT_SHORT: return "cut short";
+    case ZENKORV_WRONG_KIND: return "wrong kind";
+    case ZENKORV_WRONG_LENGTH: return "wrong length";
+    case ZENKORV_BAD_FIELD: return "bad field";
+    case ZENKORV_TOO_MANY_WORDS: return "too many words";
+    case ZENKORV_BYTES_LEFT: return "bytes left";
+    case ZENKORV_MEMORY_TOO_SHORT: return "memory too short";
+    case ZENKORV_OUTPUT_TOO_SHORT: return "output or record too short";
+    case ZENKORV_NOT_SOUND: return "record not sound";
+    case ZENKORV_NO_WORD: return "no such segment or word";
+    case ZENKORV_FLAG_MISSING: return "flag missing";
+    case ZENKORV_OUT_OF_RANGE: return "word number out of range";
+    case ZENKORV_NO_MATCH: return "no live capability matches";
+    case ZENKORV_SOURCE_FAILS: return "source fails its check";
+    case ZENKORV_BAD_POINTER: return "bad pointer word";
+    case ZENKORV_BAD_INSTRUCTION: return "bad instruction word";
+    case ZENKORV_TAGGED_TRANSFER: return "transfer through a tagged pointer";
+    case ZENKORV_NOT_GATE: return "not a gate";
+    case ZENKORV_BAD_ARGUMENT: return "bad argument list";
+    case ZENKORV_NO_FREE_FRAME: return "no free frame";
+    case ZENKORV_BAD_RETURN: return "bad return";
+    default: return "?";
+    }
+}
 
 #ifdef __cplusplus
 }

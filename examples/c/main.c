@@ -1,8 +1,9 @@
-/* Runs an image file and prints the result; with no argument, checks images that are built in. */
+/* Runs an image file by zenkorv_entry and prints the result; with no argument, checks images that are built in. */
 #include <stdio.h>
 #include <stdlib.h>
 #include <string.h>
 
+#include "image_file.h"
 #include "zenkorv.h"
 
 enum { FILLED = 0xAA, ROOM = 8, FILE_LIMIT = 1000 };
@@ -63,7 +64,7 @@ static void check_word(const char *name, uint32_t word, uint8_t rights, uint16_t
     check_call(name, image, LENGTH, limit, ROOM, e);
 }
 
-static struct expected refused(enum zenkorv_returned number)
+static struct expected refused(enum zenkorv_number number)
 {
     struct expected e = {(uint8_t)number, 0, 0, 0};
     return e;
@@ -76,7 +77,7 @@ static struct expected ended(enum zenkorv_ending ending, uint8_t fault, uint16_t
 }
 
 /* The paper's image with one byte changed. */
-static void check_byte(const char *name, size_t at, uint8_t byte, enum zenkorv_returned number)
+static void check_byte(const char *name, size_t at, uint8_t byte, enum zenkorv_number number)
 {
     uint8_t image[LENGTH];
     memcpy(image, halting, LENGTH);
@@ -147,18 +148,12 @@ static int check_all(void)
 static int run_file(const char *path)
 {
     static const char *const endings[] = {"halted", "faulted", "spent"};
-    static uint8_t image[ZENKORV_LONGEST_IMAGE + 1];
+    static uint8_t image[IMAGE_ROOM];
     uint8_t result[4];
-    FILE *file = fopen(path, "rb");
-    if (file == NULL) {
-        perror(path);
-        return EXIT_FAILURE;
-    }
-    size_t length = fread(image, 1, sizeof image, file);
-    fclose(file);
+    size_t length = image_file(path, image);
     uint8_t returned = zenkorv_entry(image, length, FILE_LIMIT, result, sizeof result);
     if (returned != ZENKORV_OK) {
-        printf("refused %d\n", returned);
+        printf("refused %d, %s\n", returned, zenkorv_name(returned));
         return EXIT_SUCCESS;
     }
     printf("%s, fault %d, count %d\n", endings[result[0]], result[1], result[2] + 256 * result[3]);
