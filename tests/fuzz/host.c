@@ -1,0 +1,186 @@
+/* A libFuzzer harness over the calls of a host in C: any bytes as image and record, any words. */
+#include <string.h>
+
+#include "fuzz.h"
+
+enum { SOUP = 512 };
+
+static uint8_t made[RECORD];
+static uint32_t made_memory[WORDS];
+
+static size_t least(size_t a, size_t b)
+{
+    return a < b ? a : b;
+}
+
+/* Lengths as the input chooses them; all bytes and words drawn. */
+static void lend_all(const struct input *in)
+{
+    seed_draws(in->seed);
+    lend(&record, chosen_length(in->record_choice, RECORD));
+    lend(&words, 4 * chosen_length(in->words_choice, WORDS));
+    lend(&output, chosen_length(in->output_choice, 4));
+    lend(&image, 0);
+    fill(&record);
+    fill(&words);
+    fill(&output);
+    fill(&image);
+}
+
+/* An output about as long as the record's image. */
+static void lend_output(const struct input *in)
+{
+    size_t needed = record.length < RECORD ? ZENKORV_LONGEST_IMAGE : image_length(record.at);
+    lend(&output, chosen_length(in->output_choice, least(needed, ZENKORV_LONGEST_IMAGE)));
+}
+
+/* One byte of the record, or of the words after it. */
+static void edit(const uint8_t *place, uint8_t value)
+{
+    size_t offset = get16(place);
+    if (offset < record.length)
+        record.at[offset] = value;
+    else if (offset - record.length < words.length)
+        words.at[offset - record.length] = value;
+}
+
+static void one_slice(uint8_t call, uint8_t limit, uint8_t value)
+{
+    switch (call % 8) {
+    case 0: run(limit); break;
+    case 1: stretch(limit); break;
+    case 2: step(); break;
+    case 3: run_is_steps((uint16_t)(1 + limit % 8)); break;
+    case 4: stretch_is_run(limit); break;
+    case 5: segment_part(value % 20); break;
+    case 6: check(value & 1, value & 2, value >> 4, limit); break;
+    default: write_image(); break;
+    }
+}
+
+/* Calls; after some of them a byte is changed. */
+static void slices(const struct input *in)
+{
+    for (unsigned k = 0; k < SLICES; k++) {
+        const uint8_t *slice = in->slices + SLICE * k;
+        one_slice(slice[0], slice[1], slice[2]);
+        if (slice[3] % 4 == 1)
+            edit(slice + 4, slice[2]);
+        keep(&record);
+        keep(&words);
+    }
+}
+
+static void look(const struct input *in)
+{
+    segment_part(in->segment);
+    segment_part(in->segment % 8);
+    check(in->flags & 1, in->flags & 2, in->segment, in->word);
+    for (unsigned k = 0; k < 4; k++)
+        check((uint8_t)below(2), (uint8_t)below(2), (uint8_t)below(6), (uint16_t)below(12));
+}
+
+static void every_call(const struct input *in)
+{
+    bool accepted = run(0) >> 24 != REFUSED;
+    count_record(accepted);
+    look(in);
+    run_is_steps((uint16_t)(1 + in->limit % 8));
+    stretch_is_run(in->limit);
+    lend_output(in);
+    if (accepted) {
+        slices(in);
+        run(in->limit);
+        look(in);
+    }
+    write_reads_back();
+    restart();
+}
+
+static void try_image(const struct input *in)
+{
+    bool accepted = read_image() == 0;
+    count_image(accepted);
+    if (accepted) {
+        entry_is_run(in->limit);
+        read_writes_back();
+        neighbours_refused();
+    } else {
+        entry(in->limit);
+    }
+    every_call(in);
+}
+
+static void image_mode(const struct input *in)
+{
+    lend(&image, in->rest_length);
+    memcpy(image.at, in->rest, in->rest_length);
+    keep(&image);
+    try_image(in);
+}
+
+/* 919 bytes, zeros where they are fewer; then words, or a soup of instructions. */
+static void record_mode(const struct input *in)
+{
+    size_t given = least(in->rest_length, record.length);
+    size_t more = least(in->rest_length - given, words.length);
+    memset(record.at, 0, record.length);
+    memcpy(record.at, in->rest, given);
+    if (more == 0)
+        made_soup((uint32_t *)(void *)words.at, least(words.length / 4, SOUP));
+    memcpy(words.at, in->rest + given, more);
+    keep(&record);
+    keep(&words);
+    every_call(in);
+}
+
+static void edited_image_mode(const struct input *in)
+{
+    made_layout(made);
+    made_words(made, made_memory);
+    lend(&image, image_length(made));
+    must(made_image(made, made_memory, image.at) == image.length, "read", "a made image must have its length");
+    for (size_t k = 0; k < in->edits; k++)
+        image.at[get16(in->rest + EDIT * k) % image.length] = in->rest[EDIT * k + 2];
+    keep(&image);
+    if (in->edits == 0 && record.length >= RECORD && words.length >= 4 * WORDS) {
+        must(read_image() == 0, "read", "a made image must be accepted");
+        must(memcmp(record.at, made, RECORD) == 0, "read", "a made image must give its record");
+        must(memcmp(words.at, made_memory, 4 * words_in_use(made)) == 0, "read", "a made image must give its words");
+    }
+    try_image(in);
+}
+
+static void edited_record_mode(const struct input *in)
+{
+    made_layout(made);
+    made_state(made);
+    made_words(made, made_memory);
+    memcpy(record.at, made, least(RECORD, record.length));
+    memcpy(words.at, made_memory, least(4 * words_in_use(made), words.length));
+    for (size_t k = 0; k < in->edits; k++)
+        edit(in->rest + EDIT * k, in->rest[EDIT * k + 2]);
+    keep(&record);
+    keep(&words);
+    if (in->edits == 0 && record.length >= RECORD && words.length >= 4 * WORDS)
+        must(run(0) == 0x2000000, "run", "a made record must be accepted");
+    every_call(in);
+}
+
+int LLVMFuzzerTestOneInput(const uint8_t *data, size_t size)
+{
+    if (image.room == NULL)
+        make_rooms();
+    if (size < HEADER || size - HEADER > image.size)
+        return 0;
+    struct input in = input_of(data, size);
+    count_input(in.mode);
+    lend_all(&in);
+    switch (in.mode) {
+    case IMAGE: image_mode(&in); break;
+    case RECORD_BYTES: record_mode(&in); break;
+    case EDITED_IMAGE: edited_image_mode(&in); break;
+    default: edited_record_mode(&in); break;
+    }
+    return 0;
+}
