@@ -1,6 +1,6 @@
 //! How often each answer was given, by kind of record.
 
-use crate::references::REFUSED;
+use reference::host::REFUSED;
 use std::collections::BTreeMap;
 use std::fmt;
 
@@ -13,6 +13,8 @@ pub enum Kind {
     Sound,
     /// With garbage, mostly not sound.
     Garbage,
+    /// Of fewer than 919 bytes.
+    Short,
 }
 
 /// Counts of answers: 0 for an index, else the number of the refusal.
@@ -53,17 +55,17 @@ impl Answers {
 
 impl fmt::Display for Answers {
     fn fmt(&self, f: &mut fmt::Formatter<'_>) -> fmt::Result {
-        const KINDS: [Kind; 3] = [Kind::MidRun, Kind::Sound, Kind::Garbage];
-        writeln!(f, "answer     mid run      sound    garbage")?;
-        for number in [0, 9, 21, 22, 24, 25] {
+        const KINDS: [Kind; 4] = [Kind::MidRun, Kind::Sound, Kind::Garbage, Kind::Short];
+        writeln!(f, "answer     mid run      sound    garbage      short")?;
+        for number in [0, 8, 9, 21, 22, 24, 25] {
             let name = match number {
                 0 => "index".to_string(),
                 _ => number.to_string(),
             };
-            let [a, b, c] = KINDS.map(|kind| self.sum(|n, k| (n, k) == (number, kind)));
-            writeln!(f, "{name:<7}{a:>11}{b:>11}{c:>11}")?;
+            let [a, b, c, d] = KINDS.map(|kind| self.sum(|n, k| (n, k) == (number, kind)));
+            writeln!(f, "{name:<7}{a:>11}{b:>11}{c:>11}{d:>11}")?;
         }
-        let [a, b, c] = KINDS.map(|kind| self.of_kind(kind));
-        writeln!(f, "all    {a:>11}{b:>11}{c:>11}")
+        let [a, b, c, d] = KINDS.map(|kind| self.of_kind(kind));
+        writeln!(f, "all    {a:>11}{b:>11}{c:>11}{d:>11}")
     }
 }

@@ -3,8 +3,9 @@
 use crate::answers::{Answers, Kind};
 use crate::references::Reference;
 use crate::{hex, library};
-use generator::{records, Rng};
-use reference::{record_bytes, Machine};
+use generator::lent::{self, Lent};
+use generator::Rng;
+use std::hint::black_box;
 
 /// References asked of each record.
 const REFERENCES: u64 = 8;
@@ -17,32 +18,34 @@ pub fn compare_checks(seed: u64, count: u64) -> Result<Answers, String> {
     let mut index = 0;
     while answers.total() < count {
         let mut rng = Rng::new(seed, index);
-        let (kind, machine) = record(&mut rng);
-        let bytes = record_bytes(&machine);
+        let (kind, Lent { machine, bytes, .. }) = record(&mut rng);
         for _ in 0..REFERENCES.min(count - answers.total()) {
             let asked = Reference::random(&mut rng, &machine);
-            let answer = same_answer(&machine, &bytes, asked)?;
-            answers.add(kind, answer);
+            answers.add(kind, same_answer(&bytes, asked)?);
         }
         index += 1;
     }
     Ok(answers)
 }
 
-/// A record of one of the three kinds.
-fn record(rng: &mut Rng) -> (Kind, Machine) {
-    match rng.below(5) {
-        0 | 1 => (Kind::MidRun, records::mid_run(rng).machine),
-        2 | 3 => (Kind::Sound, records::sound(rng).machine),
-        _ => (Kind::Garbage, records::garbage(rng).machine),
-    }
+/// A record of one of the four kinds; some have bytes after it.
+fn record(rng: &mut Rng) -> (Kind, Lent) {
+    let (kind, mut lent) = match rng.below(20) {
+        0..=7 => (Kind::MidRun, lent::mid_run(rng)),
+        8..=15 => (Kind::Sound, lent::sound(rng)),
+        16..=18 => (Kind::Garbage, lent::garbage(rng)),
+        _ => return (Kind::Short, lent::short(rng)),
+    };
+    lent.bytes.extend(vec![0xEE; rng.pick(&[0, 0, 0, 1, 40])]);
+    (kind, lent)
 }
 
-/// The answer of both implementations.
-fn same_answer(machine: &Machine, bytes: &[u8], asked: Reference) -> Result<u32, String> {
-    let due = asked.answer(machine);
-    let given = library::check(bytes, asked);
-    if given == due {
+/// The answer of both implementations; the record stays.
+fn same_answer(bytes: &[u8], asked: Reference) -> Result<u32, String> {
+    let mut lent = bytes.to_vec();
+    let due = asked.by_reference(bytes);
+    let given = asked.by_library(&lent);
+    if given == due && *black_box(&mut lent) == bytes {
         return Ok(given);
     }
     Err(format!(

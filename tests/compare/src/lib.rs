@@ -3,17 +3,20 @@
 mod answers;
 mod checks;
 mod cpu_time;
+pub mod host;
 pub mod images;
 pub mod isolation;
 #[cfg_attr(library_missing, path = "library_missing.rs")]
 pub mod library;
 mod references;
 pub mod runs;
+mod state;
 
 pub use answers::{Answers, Kind};
 pub use checks::compare_checks;
 pub use cpu_time::cpu_time;
-pub use references::{Reference, REFUSED};
+pub use references::Reference;
+pub use state::{Pair, State};
 
 use std::fmt::Write;
 

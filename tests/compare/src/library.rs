@@ -1,93 +1,153 @@
-//! The proved library's functions. Their declarations stand here alone; each
+//! The proved library's nine calls, as `include/zenkorv.h` declares them; each
 //! has a wrapper that is safe to call with any slices.
 
-use crate::references::Reference;
-
 extern "C" {
-    fn zenkorv_check(
-        bytes: *const u8,
-        length: usize,
-        write: u8,
-        tag: u8,
-        segment: u8,
-        word: u16,
-    ) -> u32;
-
     fn zenkorv_read(
         image: *const u8,
         image_length: usize,
-        bytes: *mut u8,
-        length: usize,
+        record: *mut u8,
+        record_length: usize,
         words: *mut u32,
         word_count: usize,
     ) -> u8;
 
+    fn zenkorv_run(
+        record: *mut u8,
+        record_length: usize,
+        words: *mut u32,
+        word_count: usize,
+        limit: u16,
+    ) -> u32;
+
+    fn zenkorv_stretch(
+        record: *mut u8,
+        record_length: usize,
+        words: *mut u32,
+        word_count: usize,
+        limit: u16,
+    ) -> u32;
+
+    fn zenkorv_step(
+        record: *mut u8,
+        record_length: usize,
+        words: *mut u32,
+        word_count: usize,
+    ) -> u16;
+
     fn zenkorv_write(
-        bytes: *const u8,
-        length: usize,
+        record: *const u8,
+        record_length: usize,
         words: *const u32,
         word_count: usize,
         output: *mut u8,
         output_length: usize,
     ) -> u32;
 
-    fn zenkorv_run(
-        bytes: *mut u8,
-        length: usize,
-        words: *mut u32,
+    fn zenkorv_segment(
+        record: *const u8,
+        record_length: usize,
+        words: *const u32,
         word_count: usize,
-        limit: u16,
-        stretches: u8,
+        segment: u8,
+        first: *mut u16,
+        count: *mut u16,
+    ) -> u8;
+
+    fn zenkorv_check(
+        record: *const u8,
+        record_length: usize,
+        write: u8,
+        tag: u8,
+        segment: u8,
+        word: u16,
     ) -> u32;
+
+    fn zenkorv_restart(record: *mut u8, record_length: usize) -> u8;
+
+    fn zenkorv_entry(
+        image: *const u8,
+        image_length: usize,
+        limit: u16,
+        result: *mut u8,
+        result_length: usize,
+    ) -> u8;
 }
+
+// In each wrapper a pointer and its length are those of a slice, or of a
+// number that lives through the call. The function reads within those that it
+// takes as `const`, and reads and writes within the others.
 
 /// Whether the library is linked; it is.
 pub fn linked() -> Result<(), String> {
     Ok(())
 }
 
-/// The index of the word, or 0x10000 plus the number of the refusal.
-pub fn check(bytes: &[u8], asked: Reference) -> u32 {
-    // SAFETY: the pointer and the length are those of a slice, which the
-    // function only reads.
-    unsafe {
-        zenkorv_check(
-            bytes.as_ptr(),
-            bytes.len(),
-            u8::from(asked.write),
-            u8::from(asked.pointer.tag),
-            asked.pointer.segment,
-            asked.pointer.word,
-        )
-    }
-}
-
-/// Reads an image into the record that `bytes` hold and its words; 0 or the
-/// number of the refusal.
-pub fn read(image: &[u8], bytes: &mut [u8], words: &mut [u32]) -> u8 {
-    // SAFETY: each pointer and length are those of a slice. The function
-    // reads the first and writes within the others.
+/// Reads an image into a record and its words; 0 or the number of the refusal.
+pub fn read(image: &[u8], record: &mut [u8], words: &mut [u32]) -> u8 {
+    // SAFETY: see above.
     unsafe {
         zenkorv_read(
             image.as_ptr(),
             image.len(),
-            bytes.as_mut_ptr(),
-            bytes.len(),
+            record.as_mut_ptr(),
+            record.len(),
             words.as_mut_ptr(),
             words.len(),
         )
     }
 }
 
-/// Writes the image of the record that `bytes` hold; its length, or 0x10000
-/// plus the number of the refusal.
-pub fn write(bytes: &[u8], words: &[u32], output: &mut [u8]) -> u32 {
-    // SAFETY: each pointer and length are those of a slice. The function
-    // only reads the first two and writes within the last.
+/// Runs the machine of a record. Gives the ending in bits 24 to 31, the number
+/// of a fault or refusal in bits 16 to 23, the count in bits 0 to 15.
+pub fn run(record: &mut [u8], words: &mut [u32], limit: u16) -> u32 {
+    // SAFETY: see above.
+    unsafe {
+        zenkorv_run(
+            record.as_mut_ptr(),
+            record.len(),
+            words.as_mut_ptr(),
+            words.len(),
+            limit,
+        )
+    }
+}
+
+/// Makes a stretch of it; gives the same.
+pub fn stretch(record: &mut [u8], words: &mut [u32], limit: u16) -> u32 {
+    // SAFETY: see above.
+    unsafe {
+        zenkorv_stretch(
+            record.as_mut_ptr(),
+            record.len(),
+            words.as_mut_ptr(),
+            words.len(),
+            limit,
+        )
+    }
+}
+
+/// One instruction. Gives the number of a refusal or fault in bits 0 to 7, and
+/// bit 8 for a HALT.
+pub fn step(record: &mut [u8], words: &mut [u32]) -> u16 {
+    // SAFETY: see above.
+    unsafe {
+        zenkorv_step(
+            record.as_mut_ptr(),
+            record.len(),
+            words.as_mut_ptr(),
+            words.len(),
+        )
+    }
+}
+
+/// Writes the image of a record and its words; its length, or 0x10000 plus the
+/// number of the refusal.
+pub fn write(record: &[u8], words: &[u32], output: &mut [u8]) -> u32 {
+    // SAFETY: see above.
     unsafe {
         zenkorv_write(
-            bytes.as_ptr(),
-            bytes.len(),
+            record.as_ptr(),
+            record.len(),
             words.as_ptr(),
             words.len(),
             output.as_mut_ptr(),
@@ -96,20 +156,48 @@ pub fn write(bytes: &[u8], words: &[u32], output: &mut [u8]) -> u32 {
     }
 }
 
-/// Runs the machine whose record `bytes` hold, or makes a stretch of it if
-/// `stretches` is 1. Gives the ending's kind in bits 24 to 31, the number of a
-/// fault or refusal in bits 16 to 23, the count in bits 0 to 15.
-pub fn run(bytes: &mut [u8], words: &mut [u32], limit: u16, stretches: u8) -> u32 {
-    // SAFETY: each pointer and length are those of a slice, within which the
-    // function reads and writes.
+/// Puts a segment's first word and its number of words; 0 or the number of the
+/// refusal.
+pub fn segment(record: &[u8], words: &[u32], segment: u8, first: &mut u16, count: &mut u16) -> u8 {
+    // SAFETY: see above.
     unsafe {
-        zenkorv_run(
-            bytes.as_mut_ptr(),
-            bytes.len(),
-            words.as_mut_ptr(),
+        zenkorv_segment(
+            record.as_ptr(),
+            record.len(),
+            words.as_ptr(),
             words.len(),
+            segment,
+            first,
+            count,
+        )
+    }
+}
+
+/// The index of the word that is referred to, or 0x10000 plus the number of
+/// the refusal.
+pub fn check(record: &[u8], write: u8, tag: u8, segment: u8, word: u16) -> u32 {
+    // SAFETY: see above.
+    unsafe { zenkorv_check(record.as_ptr(), record.len(), write, tag, segment, word) }
+}
+
+/// Makes a record the fresh machine of its layout; 0 or the number of the
+/// refusal.
+pub fn restart(record: &mut [u8]) -> u8 {
+    // SAFETY: see above.
+    unsafe { zenkorv_restart(record.as_mut_ptr(), record.len()) }
+}
+
+/// Runs an image in a memory of its own and puts ending, fault and count into
+/// the result; 0 or the number of the refusal.
+pub fn entry(image: &[u8], limit: u16, result: &mut [u8]) -> u8 {
+    // SAFETY: see above.
+    unsafe {
+        zenkorv_entry(
+            image.as_ptr(),
+            image.len(),
             limit,
-            stretches,
+            result.as_mut_ptr(),
+            result.len(),
         )
     }
 }

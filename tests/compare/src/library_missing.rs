@@ -1,21 +1,29 @@
-//! Stands in for the proved library's functions where it is missing.
+//! Stands in for the proved library's calls where it is missing.
 
-use crate::references::Reference;
-
-const MISSING: &str = "target/staticlib/libhost.a is missing: run `rt staticlib host` first";
+const MISSING: &str = "target/lib/libzenkorv.a is missing: run `tools/library` first";
 
 /// Whether the library is linked; it isn't.
 pub fn linked() -> Result<(), String> {
     Err(MISSING.to_string())
 }
 
-/// There is nothing to ask.
-pub fn check(_: &[u8], _: Reference) -> u32 {
+/// There is nothing to read with.
+pub fn read(_: &[u8], _: &mut [u8], _: &mut [u32]) -> u8 {
     panic!("{MISSING}")
 }
 
-/// There is nothing to read with.
-pub fn read(_: &[u8], _: &mut [u8], _: &mut [u32]) -> u8 {
+/// There is nothing to run with.
+pub fn run(_: &mut [u8], _: &mut [u32], _: u16) -> u32 {
+    panic!("{MISSING}")
+}
+
+/// There is nothing to make a stretch with.
+pub fn stretch(_: &mut [u8], _: &mut [u32], _: u16) -> u32 {
+    panic!("{MISSING}")
+}
+
+/// There is nothing to make a step with.
+pub fn step(_: &mut [u8], _: &mut [u32]) -> u16 {
     panic!("{MISSING}")
 }
 
@@ -24,7 +32,22 @@ pub fn write(_: &[u8], _: &[u32], _: &mut [u8]) -> u32 {
     panic!("{MISSING}")
 }
 
-/// There is nothing to run with.
-pub fn run(_: &mut [u8], _: &mut [u32], _: u16, _: u8) -> u32 {
+/// There is nothing to find a segment with.
+pub fn segment(_: &[u8], _: &[u32], _: u8, _: &mut u16, _: &mut u16) -> u8 {
+    panic!("{MISSING}")
+}
+
+/// There is nothing to check with.
+pub fn check(_: &[u8], _: u8, _: u8, _: u8, _: u16) -> u32 {
+    panic!("{MISSING}")
+}
+
+/// There is nothing to restart with.
+pub fn restart(_: &mut [u8]) -> u8 {
+    panic!("{MISSING}")
+}
+
+/// There is nothing to run an image with.
+pub fn entry(_: &[u8], _: u16, _: &mut [u8]) -> u8 {
     panic!("{MISSING}")
 }

@@ -1,26 +1,25 @@
-//! Random references, and the reference implementation's answers.
+//! Random references, asked of the library and of the reference.
 
+use crate::library;
 use generator::Rng;
-use reference::checks::{check_reference, Flag};
 use reference::record::{Capability, CAPABILITIES, FRAMES};
-use reference::words::Pointer;
-use reference::{is_sound, Machine, Refusal};
+use reference::{host, Machine};
 
-/// Added to a refusal's number, so that it is no index.
-pub const REFUSED: u32 = 0x10000;
-
-/// A reference by the executing domain.
+/// A reference by the executing domain, with the bytes that ask for it: 0
+/// reads, any other writes; 0 is no tag, any other is one.
 #[derive(Clone, Copy, Debug)]
 pub struct Reference {
-    pub write: bool,
-    pub pointer: Pointer,
+    pub write: u8,
+    pub tag: u8,
+    pub segment: u8,
+    pub word: u16,
 }
 
 impl Reference {
     /// A reference that is often near an edge.
     pub fn random(rng: &mut Rng, machine: &Machine) -> Reference {
-        let write = rng.chance(40);
-        let tag = rng.chance(60);
+        let write = byte_with_chance(rng, 40);
+        let tag = byte_with_chance(rng, 60);
         let (segment, word) = match rng.below(10) {
             0..=2 => near_segment(rng, machine),
             3..=7 => near_capability(rng, machine),
@@ -30,28 +29,31 @@ impl Reference {
             }
             _ => (rng.next() as u8, rng.next() as u16),
         };
-        let pointer = Pointer { tag, segment, word };
-        Reference { write, pointer }
+        Reference {
+            write,
+            tag,
+            segment,
+            word,
+        }
     }
 
-    /// The index of the word, or `REFUSED` plus the number of the refusal.
-    pub fn answer(self, machine: &Machine) -> u32 {
-        if !is_sound(machine) {
-            return REFUSED + u32::from(Refusal::NotSound.number());
-        }
-        let flag = if self.write { Flag::Write } else { Flag::Read };
-        match check_reference(machine, self.pointer, flag) {
-            Ok(()) => index(machine, self.pointer),
-            Err(fault) => REFUSED + u32::from(fault.number()),
-        }
+    /// The library's answer.
+    pub fn by_library(self, record: &[u8]) -> u32 {
+        library::check(record, self.write, self.tag, self.segment, self.word)
+    }
+
+    /// The answer that is due.
+    pub fn by_reference(self, record: &[u8]) -> u32 {
+        host::check(record, self.write, self.tag, self.segment, self.word)
     }
 }
 
-/// Where a word lies in the memory: after the segments before its own.
-fn index(machine: &Machine, pointer: Pointer) -> u32 {
-    let before = &machine.segments[..usize::from(pointer.segment)];
-    let base: u32 = before.iter().map(|row| u32::from(row.length)).sum();
-    base + u32::from(pointer.word)
+/// A byte that is not 0 in so many of a hundred times; mostly 1, then.
+fn byte_with_chance(rng: &mut Rng, percent: u32) -> u8 {
+    match rng.chance(percent) {
+        true => rng.pick(&[1, 1, 1, 2, 128, 255]),
+        false => 0,
+    }
 }
 
 /// A word of a segment or just past it; a few of the segments are absent.

@@ -1,6 +1,6 @@
 //! Stretches by the proved library keep the isolation claim.
 
-use compare::isolation::{by_library, compare, compare_isolation, Claim, Met, Sees};
+use compare::isolation::{compare, compare_isolation, Claim, Met, Sees};
 use compare::library;
 use generator::{records, Rng};
 use reference::may_see;
@@ -20,7 +20,7 @@ fn stretches_depend_on_visible_words_only() {
 
 /// How many of 500 stretches break the claim under a visibility.
 fn broken_under(sees: Sees) -> u32 {
-    let make = by_library;
+    let make = library::stretch;
     let mut rng = Rng::new(42, 0);
     let mut met = Met::default();
     let mut broken = 0;

@@ -1,8 +1,8 @@
 //! Whole runs by the proved library and by the reference give the same.
 
-use compare::library;
-use compare::runs::{code, kind, number, Call, Comparison, Kind, Pair};
-use generator::{records, Rng};
+use compare::runs::{code, kind, number, Call, Comparison, Kind};
+use compare::{library, Pair, State};
+use generator::{lent, Rng};
 
 /// A fixed batch of a few thousand images and records.
 fn batch(all: &mut Comparison) -> Result<(), String> {
@@ -46,20 +46,28 @@ fn the_runs_agree() {
 #[test]
 fn a_state_that_differs_is_seen() {
     library::linked().unwrap_or_else(|missing| panic!("{missing}"));
-    let snapshot = records::sound(&mut Rng::new(7, 0));
-    let mut pair = Pair::default();
-    pair.set(&snapshot.machine, &snapshot.memory, &[1, 2]);
+    let mut state = State::from(lent::sound(&mut Rng::new(7, 0)));
+    state.record.extend([1, 2]);
+    let mut pair = Pair::new(&state);
     assert_eq!(pair.call(Call::Run(0)), Ok(code(Kind::Spent, 0, 0)));
     for place in [0, 300, 918, 919, 920] {
         let mut other = pair.clone();
-        other.bytes[place] ^= 1;
+        other.library.record[place] ^= 1;
         assert!(other.call(Call::Run(0)).is_err(), "byte {place}");
     }
     for place in [0, 4095, 8191] {
         let mut other = pair.clone();
-        other.words[place] ^= 1;
+        other.library.words[place] ^= 1;
         assert!(other.call(Call::Run(0)).is_err(), "word {place}");
     }
+}
+
+#[test]
+fn answers_of_a_step_have_codes() {
+    assert_eq!(Call::Step.code(0), code(Kind::Spent, 0, 1));
+    assert_eq!(Call::Step.code(0x100), code(Kind::Halted, 0, 1));
+    assert_eq!(Call::Step.code(9), code(Kind::Refused, 9, 0));
+    assert_eq!(Call::Step.code(21), code(Kind::Faulted, 21, 0));
 }
 
 #[test]

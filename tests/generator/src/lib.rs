@@ -2,6 +2,7 @@
 
 mod call_tree;
 mod damage;
+pub mod lent;
 mod mutate;
 mod random;
 mod reached;

@@ -1,10 +1,10 @@
-//! Machine records in the middle of a run, sound ones and others.
+//! Machine records in the middle of a run, and other sound ones.
 
 use crate::program;
 use crate::random::Rng;
 use reference::record::{Capability, Frame, Machine, CAPABILITIES, FRAMES};
 use reference::words::Pointer;
-use reference::{machine_from_bytes, read_image, record_bytes, run, MEMORY_WORDS};
+use reference::{read_image, run, MEMORY_WORDS};
 
 /// A machine with its memory.
 #[derive(Clone, Debug)]
@@ -40,85 +40,6 @@ pub fn sound(rng: &mut Rng) -> Snapshot {
         change_in_range(rng, machine);
     }
     snapshot
-}
-
-/// A record with garbage in some fields, or in all of them. Most are not
-/// sound.
-pub fn garbage(rng: &mut Rng) -> Snapshot {
-    let Snapshot { machine, memory } = sound(rng);
-    let machine = if rng.chance(10) {
-        garbage_machine(rng)
-    } else {
-        with_garbage(rng, &machine)
-    };
-    Snapshot { machine, memory }
-}
-
-/// The record with one to four bytes of its encoding replaced.
-fn with_garbage(rng: &mut Rng, machine: &Machine) -> Machine {
-    loop {
-        let mut bytes = record_bytes(machine);
-        for _ in 0..rng.between(1, 4) {
-            let place = rng.below(bytes.len() as u32) as usize;
-            bytes[place] = rng.pick(&[0, 1, 2, 9, 16, 17, 99, 200, 255]);
-        }
-        if let Some(machine) = machine_from_bytes(&bytes) {
-            return machine;
-        }
-    }
-}
-
-/// A record of nothing but garbage.
-fn garbage_machine(rng: &mut Rng) -> Machine {
-    let mut machine = Machine {
-        segment_count: rng.next() as u8,
-        domain_count: rng.next() as u8,
-        a: rng.word(),
-        domain: rng.next() as u8,
-        frame_count: rng.next() as u8,
-        start_domain: rng.next() as u8,
-        ..Machine::default()
-    };
-    for row in &mut machine.segments {
-        row.length = rng.next() as u16;
-        row.gate_count = rng.next() as u16;
-        row.gate_domain = rng.next() as u8;
-    }
-    for row in &mut machine.domains {
-        row.stack_segment = rng.next() as u8;
-        row.rights = row.rights.map(|_| rng.next() as u8);
-    }
-    machine.pointers = machine.pointers.map(|_| garbage_pointer(rng));
-    let place = garbage_pointer(rng);
-    machine.location.segment = place.segment;
-    machine.location.word = place.word;
-    for frame in &mut machine.frames {
-        frame.capability_count = rng.next() as u8;
-        frame.return_location = garbage_pointer(rng);
-        frame.s = garbage_pointer(rng);
-        frame.domain = rng.next() as u8;
-        frame.capabilities = frame.capabilities.map(|_| garbage_capability(rng));
-    }
-    machine
-}
-
-fn garbage_pointer(rng: &mut Rng) -> Pointer {
-    Pointer {
-        tag: rng.chance(50),
-        segment: rng.next() as u8,
-        word: rng.next() as u16,
-    }
-}
-
-fn garbage_capability(rng: &mut Rng) -> Capability {
-    Capability {
-        segment: rng.next() as u8,
-        word: rng.next() as u16,
-        length: rng.next() as u16,
-        read: rng.chance(50),
-        write: rng.chance(50),
-        source: rng.next() as u8,
-    }
 }
 
 /// Changes one thing inside its range.

@@ -1,10 +1,11 @@
 //! A batch of images must reach every part of the processor, and the records
 //! must be of the kinds they claim to be.
 
+use generator::lent::{self, Lent};
 use generator::records::{self, Snapshot};
 use generator::{image, Reached, Rng, LIMIT};
 use reference::words::OPCODES;
-use reference::{is_sound, machine_from_bytes, record_bytes, Refusal};
+use reference::{host, is_sound, machine_from_bytes, record_bytes, Refusal};
 
 #[test]
 fn a_batch_reaches_every_part() {
@@ -61,10 +62,25 @@ fn sound_records_are_sound_and_mostly_have_frames() {
             assert!(is_sound(&machine));
             with_frames += u32::from(machine.frame_count > 0);
             let bytes = record_bytes(&machine);
-            assert_eq!(machine_from_bytes(&bytes), Some(machine));
+            assert_eq!(machine_from_bytes(&bytes), Ok(machine));
         }
     }
     assert!(with_frames > 4000, "{with_frames}");
+}
+
+/// Makes each call with a record that is not sound: 9, and all stays.
+fn refused_by_all(lent: &Lent) {
+    let (mut record, mut words) = (lent.bytes.clone(), lent.words.clone());
+    let (mut output, mut first, mut count) = ([3; 40], 5, 6);
+    assert_eq!(host::run(&mut record, &mut words, 9), 0x0409_0000);
+    assert_eq!(host::stretch(&mut record, &mut words, 9), 0x0409_0000);
+    assert_eq!(host::step(&mut record, &mut words), 9);
+    assert_eq!(host::restart(&mut record), 9);
+    assert_eq!(host::write(&record, &words, &mut output), 0x10009);
+    let segment = host::segment(&record, &words, 0, &mut first, &mut count);
+    assert_eq!((segment, first, count, output), (9, 5, 6, [3; 40]));
+    assert_eq!(host::check(&record, 0, 0, 0, 0), 0x10009);
+    assert_eq!((record, words), (lent.bytes.clone(), lent.words.clone()));
 }
 
 #[test]
@@ -72,28 +88,48 @@ fn garbage_records_are_refused_and_left_alone() {
     let mut rng = Rng::new(12, 0);
     let mut unsound = 0;
     for _ in 0..3000 {
-        let before = records::garbage(&mut rng);
-        let Snapshot {
-            mut machine,
-            mut memory,
-        } = before.clone();
-        if is_sound(&machine) {
-            continue;
-        }
-        unsound += 1;
-        let mut output = [3; 40];
-        let run = reference::run(&mut machine, &mut memory, 9);
-        assert_eq!(run, Err(Refusal::NotSound));
-        assert_eq!(reference::step(&mut machine, &mut memory).number, 9);
-        let written = reference::write_image(&machine, &memory, &mut output);
-        assert_eq!(written, Err(Refusal::NotSound));
-        assert_eq!(reference::segment_number(&machine, &memory, 0), 9);
-        assert_eq!((&machine, &memory), (&before.machine, &before.memory));
-        assert_eq!(output, [3; 40]);
-        for segment in [0, 1, 15, 16, 255] {
-            reference::may_see(&machine, segment, 9);
-            reference::could_write(&machine, segment, 9);
+        let lent = lent::garbage(&mut rng);
+        match machine_from_bytes(&lent.bytes) {
+            Ok(machine) => assert_eq!(record_bytes(&machine), lent.bytes),
+            Err(refusal) => {
+                assert_eq!(refusal, Refusal::NotSound);
+                refused_by_all(&lent);
+                unsound += 1;
+            }
         }
     }
     assert!(unsound > 1500, "{unsound}");
+}
+
+#[test]
+fn a_flag_above_1_or_a_byte_in_an_unused_row_is_no_record() {
+    let mut rng = Rng::new(13, 0);
+    for _ in 0..30 {
+        let Lent { machine, bytes, .. } = lent::sound(&mut rng);
+        let spoiled = |place: usize, byte: u8| {
+            let mut other = bytes.clone();
+            other[place] = byte;
+            assert_eq!(
+                machine_from_bytes(&other),
+                Err(Refusal::NotSound),
+                "{place}"
+            );
+        };
+        lent::flags()
+            .into_iter()
+            .for_each(|place| spoiled(place, 2));
+        for place in lent::unused(&machine) {
+            assert_eq!(bytes[place], 0, "{place}");
+            spoiled(place, 1);
+        }
+    }
+}
+
+#[test]
+fn short_records_are_short() {
+    let mut rng = Rng::new(14, 0);
+    for _ in 0..100 {
+        let lent = lent::short(&mut rng);
+        assert_eq!(machine_from_bytes(&lent.bytes), Err(Refusal::ShortOutput));
+    }
 }

@@ -1,11 +1,14 @@
 //! The multidomain processor, written plainly from its description.
 //!
 //! One module for each part of the description. A `Machine` may hold any
-//! values at all; the calls of a host refuse one that is not sound with 9.
+//! values at all; every call refuses one that is not sound with 9. `host` has
+//! the calls on a machine that is kept as bytes.
 //! What every instruction goes through is always inlined.
 
+pub mod bytes;
 pub mod calls;
 pub mod checks;
+pub mod host;
 pub mod image;
 pub mod instructions;
 pub mod numbers;
@@ -16,11 +19,12 @@ pub mod run;
 pub mod soundness;
 pub mod words;
 
+pub use bytes::{machine_from_bytes, record_bytes, RECORD_BYTES};
 pub use checks::{could_write, may_see};
 pub use image::{read_image, segment, segment_number, write_image};
 pub use instructions::Completed;
 pub use numbers::{Fault, Refusal};
-pub use record::{machine_from_bytes, record_bytes, Machine};
+pub use record::Machine;
 pub use run::{run, step, stretch, Ending, Processor, Run, Step};
 pub use soundness::is_sound;
 

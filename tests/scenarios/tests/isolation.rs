@@ -1,13 +1,13 @@
 //! The isolation claim at random, of the reference's stretches.
 
-use compare::isolation::{by_reference, compare, compare_stretches, Claim, Met, Sees};
+use compare::isolation::{compare, compare_stretches, Claim, Met, Sees};
 use generator::{records, Rng};
 use reference::checks::{live_check, static_check, Flag};
-use reference::{may_see, Machine};
+use reference::{host, may_see, Machine};
 
 #[test]
 fn stretches_depend_on_visible_words_only() {
-    let met = compare_stretches(41, 100_000, by_reference);
+    let met = compare_stretches(41, 100_000, host::stretch);
     let met = met.unwrap_or_else(|broken| panic!("{broken}"));
     println!("{met}");
     assert!(met.crossed > 15_000, "{met}");
@@ -23,7 +23,7 @@ fn stretches_depend_on_visible_words_only() {
 
 /// How many of 3,000 stretches break the claim under another visibility.
 fn broken_under(sees: Sees) -> u32 {
-    let make = by_reference;
+    let make = host::stretch;
     let mut rng = Rng::new(42, 0);
     let mut met = Met::default();
     let mut broken = 0;

@@ -181,18 +181,75 @@ fn the_checks_answer_for_any_record() {
     assert!(reference::could_write(&machine, 3, 4));
 }
 
+/// Bytes with one of them changed.
+fn changed(bytes: &[u8], place: usize, byte: u8) -> Vec<u8> {
+    let mut bytes = bytes.to_vec();
+    bytes[place] = byte;
+    bytes
+}
+
 #[test]
-fn records_as_bytes() {
+fn the_parts_of_a_record_as_bytes() {
+    let mut machine = sound();
+    machine.a = 0x0403_0201;
+    machine.location.word = 4096;
+    machine.location.segment = 15;
+    machine.domain = 1;
+    machine.start.word = 0x0123;
+    machine.start.segment = 4;
+    machine.start_domain = 1;
+    machine.pointers[7] = tagged_at(9, 0x0ABC);
+    machine.frames[1].s = tagged_at(2, 3);
+    machine.frames[1].return_location = untagged_at(4, 0x0567);
+    let bytes = reference::record_bytes(&machine);
+    let part = |from: usize, expected: &[u8]| {
+        assert_eq!(&bytes[from..from + expected.len()], expected, "from {from}");
+    };
+    assert_eq!(bytes.len(), 919);
+    part(0, &[10, 0, 10, 0, 10, 0, 10, 0, 0, 16, 0, 0]);
+    part(32, &[0, 0, 0, 0, 2, 0, 0, 0]);
+    part(64, &[0x23, 0x01, 4, 1]);
+    part(68, &[0, 0, 1, 0, 0, 0]);
+    part(84, &[1, 3, 0, 0, 0, 0, 0, 0]);
+    part(92, &[5, 3, 8, 0, 3, 0]);
+    part(92 + 16, &[0, 0, 5, 3, 3, 0]);
+    part(220, &[5, 2]);
+    part(222, &[1, 2, 3, 4, 0, 16, 15, 1]);
+    part(230, &[0; 8]);
+    part(238, &[0, 0, 1, 0]);
+    part(258, &[0xBC, 0x0A, 9, 1]);
+    part(262, &[2, 1, 4, 0, 4, 0, 3, 1, 1, 0, 0, 0]);
+    part(345, &[2, 4, 0, 4, 0, 3, 1, 0, 1, 0, 0, 3, 0, 4, 0, 1, 0, 0]);
+    part(345 + 73, &[3, 0, 2, 1, 0x67, 0x05, 4, 0, 1]);
+    part(345 + 82, &[0; 919 - 345 - 82]);
+    assert_eq!(reference::machine_from_bytes(&bytes), Ok(machine));
+}
+
+#[test]
+fn bytes_are_a_record_or_refused() {
     let machine = sound();
     let bytes = reference::record_bytes(&machine);
-    assert_eq!(bytes.len(), 919);
-    assert_eq!(&bytes[..7], &[5, 2, 10, 0, 0, 0, 0]);
-    assert_eq!(reference::machine_from_bytes(&bytes), Some(machine));
-    assert_eq!(reference::machine_from_bytes(&bytes[1..]), None);
-    let flag = 2 + 80 + 136 + 4;
-    for value in [2, 255] {
-        let mut bytes = bytes.clone();
-        bytes[flag] = value;
-        assert_eq!(reference::machine_from_bytes(&bytes), None);
+    let read = |bytes: &[u8]| reference::machine_from_bytes(bytes);
+    assert_eq!(read(&bytes[..918]), Err(Refusal::ShortOutput));
+    assert_eq!(read(&[]), Err(Refusal::ShortOutput));
+    let longer = [&bytes[..], &[0xEE; 3]].concat();
+    assert_eq!(read(&longer), Ok(machine), "bytes after it don't matter");
+    for (place, byte) in [
+        (233, 2),
+        (233, 255),
+        (263 + 7, 2),
+        (263 + 9, 1),
+        (345 + 81, 2),
+        (345 + 82, 1),
+        (918, 1),
+        (262, 9),
+        (263, 0),
+        (263, 10),
+        (31, 1),
+        (219, 1),
+        (220, 17),
+    ] {
+        let spoiled = read(&changed(&bytes, place, byte));
+        assert_eq!(spoiled, Err(Refusal::NotSound), "byte {place} as {byte}");
     }
 }

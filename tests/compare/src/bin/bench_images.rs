@@ -1,14 +1,13 @@
 //! `bench_images`: reads and writes the longest image with the proved library
 //! and with the reference, in turns, and prints the best CPU time of each.
 //!
-//! Both take the record as bytes and give it back as bytes. A call that is
-//! refused at once does that alone, so the difference is the reader or writer
-//! by itself. No buffer is cleared between calls.
+//! Both keep the record as bytes. A write that is refused for its output only
+//! decodes the record, so the difference is the writer by itself. No buffer is
+//! cleared between calls.
 
 use compare::images::samples;
 use compare::{cpu_time, library};
-use reference::{machine_from_bytes, read_image, record_bytes, write_image};
-use reference::{Machine, Refusal, LONGEST_IMAGE, MEMORY_WORDS};
+use reference::{host, LONGEST_IMAGE, MEMORY_WORDS, RECORD_BYTES};
 use std::hint::black_box;
 
 /// Rounds, of which the best counts.
@@ -20,18 +19,15 @@ const CALLS: u32 = 20;
 struct Buffers {
     image: Vec<u8>,
     record: Vec<u8>,
-    not_sound: Vec<u8>,
     words: Vec<u32>,
     output: Vec<u8>,
 }
 
 impl Buffers {
     fn new(image: &[u8]) -> Buffers {
-        let machine = record_bytes(&Machine::default());
         Buffers {
             image: image.to_vec(),
-            record: machine.clone(),
-            not_sound: machine,
+            record: vec![0; RECORD_BYTES],
             words: vec![0; MEMORY_WORDS],
             output: vec![0; LONGEST_IMAGE],
         }
@@ -48,54 +44,30 @@ fn library_read(b: &mut Buffers) {
     black_box(library::read(&b.image, &mut b.record, &mut b.words));
 }
 
-fn library_refused_read(b: &mut Buffers) {
-    black_box(library::read(&[], &mut b.record, &mut b.words));
-}
-
 fn library_write(b: &mut Buffers) {
     black_box(library::write(&b.record, &b.words, &mut b.output));
 }
 
 fn library_refused_write(b: &mut Buffers) {
-    black_box(library::write(&b.not_sound, &b.words, &mut b.output));
-}
-
-fn reads(image: &[u8], record: &mut [u8], words: &mut [u32]) -> Result<(), Refusal> {
-    let mut machine = machine_from_bytes(record).expect("a record");
-    let answer = read_image(image, &mut machine, words);
-    record.copy_from_slice(&record_bytes(&machine));
-    answer
-}
-
-fn writes(record: &[u8], words: &[u32], output: &mut [u8]) -> Result<usize, Refusal> {
-    let machine = machine_from_bytes(record).expect("a record");
-    write_image(&machine, words, output)
+    black_box(library::write(&b.record, &b.words, &mut []));
 }
 
 fn reference_read(b: &mut Buffers) {
-    let _ = black_box(reads(black_box(&b.image), &mut b.record, &mut b.words));
-}
-
-fn reference_refused_read(b: &mut Buffers) {
-    let _ = black_box(reads(black_box(&[]), &mut b.record, &mut b.words));
+    black_box(host::read(&b.image, &mut b.record, &mut b.words));
 }
 
 fn reference_write(b: &mut Buffers) {
-    let _ = black_box(writes(black_box(&b.record), &b.words, &mut b.output));
+    black_box(host::write(&b.record, &b.words, &mut b.output));
 }
 
 fn reference_refused_write(b: &mut Buffers) {
-    let _ = black_box(writes(black_box(&b.not_sound), &b.words, &mut b.output));
+    black_box(host::write(&b.record, &b.words, &mut []));
 }
 
-const WORK: [Work; 4] = [
+const WORK: [Work; 3] = [
     Work {
         library: library_read,
         reference: reference_read,
-    },
-    Work {
-        library: library_refused_read,
-        reference: reference_refused_read,
     },
     Work {
         library: library_write,
@@ -139,13 +111,11 @@ fn main() {
     for buffers in [&a, &b] {
         assert!(buffers.output == *image, "written as read");
     }
-    let [read, refused_read, write, refused_write] = best;
-    let less = |[a, b]: [f64; 2], [c, d]: [f64; 2]| [a - c, b - d];
+    let [read, write, refused] = best;
+    let alone = [write[0] - refused[0], write[1] - refused[1]];
     println!("µs of CPU time per image  library  reference  library's speed");
     row("read", read);
-    row("  refused at once", refused_read);
-    row("  the reader alone", less(read, refused_read));
     row("write", write);
-    row("  refused at once", refused_write);
-    row("  the writer alone", less(write, refused_write));
+    row("  refused for its output", refused);
+    row("  the writer alone", alone);
 }

@@ -3,20 +3,27 @@
 //!
 //! One loop has twelve plain instructions, among them a reference through the
 //! sixth capability of the live frame; the other has eight, among them a call
-//! through a gate with two arguments and a return across domains. An argument
-//! (plain or calls) asks for one of them.
+//! through a gate with two arguments and a return across domains. Both keep
+//! the record as bytes. Each loop is timed in long runs, in slices of 100
+//! instructions, and in runs of no instruction, which decode and encode the
+//! record alone. An argument asks for the long runs of one loop (plain or
+//! calls), or for `slices`, with the long runs of both.
 
 use assembler::*;
-use compare::{cpu_time, library};
-use reference::{machine_from_bytes, read_image, record_bytes, run, Machine, MEMORY_WORDS};
+use compare::{cpu_time, library, State};
+use reference::{host, MEMORY_WORDS, RECORD_BYTES};
 use std::hint::black_box;
-use std::time::Duration;
 
 /// Rounds, of which the best counts.
 const ROUNDS: usize = 9;
 /// Calls in a round, each of LIMIT instructions: more than 20 million in all.
 const CALLS: usize = 306;
 const LIMIT: u16 = 65_535;
+/// Slices in a round, and instructions in each.
+const SLICES: usize = 20_000;
+const SLICE: u16 = 100;
+/// Long runs beside them, which take about as long.
+const LONG: usize = 30;
 
 /// Domain 0 with code in segment 0 and data in 1, domain 1 in 2 and 3; one
 /// gate, at word 0 of segment 2.
@@ -98,71 +105,113 @@ fn call_loop() -> Vec<u8> {
     two_domains(&caller, &caller_data(2, list), &called, &own)
 }
 
-/// A machine and its words, fresh from an image.
-fn fresh(image: &[u8]) -> (Machine, Vec<u32>) {
-    let mut machine = Machine::default();
-    let mut words = vec![0; MEMORY_WORDS];
-    read_image(image, &mut machine, &mut words).expect("a good image");
-    (machine, words)
+/// A record and its words in the middle of an image's loop.
+fn started(image: &[u8]) -> State {
+    let mut state = State::new(&[0; RECORD_BYTES], &[0; MEMORY_WORDS]);
+    let number = host::read(image, &mut state.record, &mut state.words);
+    assert_eq!(number, 0, "a good image");
+    host::run(&mut state.record, &mut state.words, SLICE);
+    state
 }
 
-/// Nanoseconds an instruction of a round by the library, and its final state.
-fn by_library(image: &[u8]) -> (f64, Vec<u8>, Vec<u32>) {
-    let (machine, mut words) = fresh(image);
-    let mut record = record_bytes(&machine);
-    let start = cpu_time();
-    for _ in 0..CALLS {
-        let code = library::run(black_box(&mut record), &mut words, LIMIT, 0);
-        assert_eq!(code, 0x200_0000 + u32::from(LIMIT));
+/// A run on a record kept as bytes; both implementations have it.
+type Runs = fn(&mut [u8], &mut [u32], u16) -> u32;
+
+/// Nanoseconds of a call, over as many calls with one limit.
+fn time(runs: Runs, state: &mut State, calls: usize, limit: u16) -> f64 {
+    let begun = cpu_time();
+    for _ in 0..calls {
+        let code = runs(black_box(&mut state.record), &mut state.words, limit);
+        assert_eq!(code, 0x200_0000 + u32::from(limit), "spent");
     }
-    (per_instruction(start), record, words)
+    (cpu_time() - begun).as_nanos() as f64 / calls as f64
 }
 
-/// The same by the reference.
-fn by_reference(image: &[u8]) -> (f64, Vec<u8>, Vec<u32>) {
-    let (mut machine, mut words) = fresh(image);
-    let start = cpu_time();
-    for _ in 0..CALLS {
-        let answer = run(black_box(&mut machine), &mut words, LIMIT).expect("a sound machine");
-        assert_eq!(answer.count, LIMIT);
-    }
-    (per_instruction(start), record_bytes(&machine), words)
-}
-
-fn per_instruction(start: Duration) -> f64 {
-    (cpu_time() - start).as_nanos() as f64 / (CALLS as f64 * f64::from(LIMIT))
-}
-
-fn bench(name: &str, image: &[u8]) {
+/// Calls of one limit by both, in turns: the best nanoseconds of a call by the
+/// library and by the reference.
+fn both(image: &[u8], calls: usize, limit: u16) -> [f64; 2] {
     let mut best = [f64::MAX; 2];
     for _ in 0..ROUNDS {
-        let (library, record, words) = by_library(image);
-        let (reference, other, others) = by_reference(image);
-        assert!(
-            record == other && words == others,
-            "{name}: the final states differ"
-        );
+        let [mut one, mut two] = [(); 2].map(|()| started(image));
+        let library = time(library::run, &mut one, calls, limit);
+        let reference = time(host::run, &mut two, calls, limit);
+        assert!(one == two, "the final states differ");
         best = [best[0].min(library), best[1].min(reference)];
     }
-    let [library, reference] = best;
-    println!(
-        "{name:6} {library:8.2} {reference:10.2} {:7.2}",
-        library / reference
-    );
+    best
+}
+
+/// A row of a table: both times and the library's over the reference's.
+fn row(name: &str, [library, reference]: [f64; 2]) -> String {
+    let ratio = library / reference;
+    format!("{name:6} {library:9.2} {reference:10.2} {ratio:7.2}")
+}
+
+/// Long runs: nanoseconds an instruction.
+fn long_run(name: &str, image: &[u8]) {
+    let times = both(image, CALLS, LIMIT).map(|call| call / f64::from(LIMIT));
+    println!("{}", row(name, times));
+}
+
+/// How many times what its instructions take in a long run a slice takes, by
+/// one side: both are timed one after the other, since the speed of a machine
+/// changes; the middle one of the rounds counts.
+fn over_long_run(runs: Runs, image: &[u8]) -> f64 {
+    let mut ratios = [(); ROUNDS].map(|()| {
+        let mut state = started(image);
+        let long = time(runs, &mut state, LONG, LIMIT) / f64::from(LIMIT);
+        time(runs, &mut state, SLICES, SLICE) / (f64::from(SLICE) * long)
+    });
+    ratios.sort_by(f64::total_cmp);
+    ratios[ROUNDS / 2]
+}
+
+/// Runs in slices: nanoseconds a slice, and how many times that is what its
+/// instructions take in a long run of the same side.
+fn slices(name: &str, image: &[u8]) {
+    let times = both(image, SLICES, SLICE);
+    let [one, two] = [library::run as Runs, host::run].map(|runs| over_long_run(runs, image));
+    println!("{} {one:9.2} {two:10.2}", row(name, times));
+}
+
+/// Runs of no instruction, which decode and encode the record alone.
+fn no_instruction(name: &str, image: &[u8]) {
+    println!("{}", row(name, both(image, SLICES, 0)));
 }
 
 fn main() {
-    assert!(machine_from_bytes(&record_bytes(&Machine::default())).is_some());
+    if let Err(missing) = library::linked() {
+        eprintln!("{missing}");
+        std::process::exit(1);
+    }
     let only = std::env::args().nth(1);
-    let mut asked = vec![("plain", plain_loop()), ("calls", call_loop())];
-    asked.retain(|(name, _)| only.as_ref().is_none_or(|only| only == name));
-    assert!(!asked.is_empty(), "the loops are plain and calls");
-    println!(
-        "ns of CPU time an instruction, best of {ROUNDS}, {} instructions a round",
-        CALLS * usize::from(LIMIT)
-    );
-    println!("       library  reference   ratio");
-    for (name, image) in asked {
-        bench(name, &image);
+    let loops = [("plain", plain_loop()), ("calls", call_loop())];
+    let is_asked = |name: &str| only.as_ref().is_none_or(|only| only == name);
+    let with_slices = is_asked("slices");
+    let mut asked: Vec<_> = loops.iter().collect();
+    asked.retain(|(name, _)| with_slices || is_asked(name));
+    assert!(!asked.is_empty(), "plain, calls or slices");
+    println!("ns of CPU time, best of {ROUNDS} rounds");
+    println!("an instruction of a long run, {CALLS} runs of {LIMIT} a round");
+    println!("         library  reference   ratio");
+    for (name, image) in &asked {
+        long_run(name, image);
+    }
+    if with_slices {
+        print_slices(&asked);
+    }
+}
+
+/// The tables of slices and of runs of no instruction.
+fn print_slices(loops: &[&(&str, Vec<u8>)]) {
+    println!("a slice of {SLICE} instructions, {SLICES} slices a round");
+    println!("         library  reference   ratio   over the long run: both");
+    for (name, image) in loops {
+        slices(name, image);
+    }
+    println!("a run of no instruction: decode and encode");
+    println!("         library  reference   ratio");
+    for (name, image) in loops {
+        no_instruction(name, image);
     }
 }

@@ -9,11 +9,11 @@ pub use samples::{samples, Sample};
 pub use tally::{Call, Tally};
 
 use crate::library;
-use generator::{damaged_image, program, records, Rng};
-use reading::{Reading, Start};
+use crate::state::State;
+use generator::{damaged_image, lent, program, Rng};
+use reading::{start, start_of, Reading};
 use reference::image::image_length;
-use reference::record::RECORD_BYTES;
-use reference::Machine;
+use reference::{machine_from_bytes, MEMORY_WORDS};
 use writing::{Writing, LONGEST_OUTPUT};
 
 /// Records and words that reads begin with.
@@ -37,7 +37,7 @@ impl Comparison {
     pub fn new(seed: u64) -> Result<Comparison, String> {
         library::linked()?;
         let mut rng = Rng::new(seed, 0);
-        let starts = (0..STARTS).map(|_| Start::random(&mut rng));
+        let starts = (0..STARTS).map(|_| start(&mut rng));
         Ok(Comparison {
             tally: Tally::default(),
             readings: starts.map(Reading::new).collect(),
@@ -99,12 +99,14 @@ impl Comparison {
     /// Writes records in the middle of a run, sound ones and garbage.
     pub fn records(&mut self, count: u64) -> Result<(), String> {
         for index in 0..count {
-            let snapshot = match index % 3 {
-                0 => records::mid_run(&mut self.rng),
-                1 => records::sound(&mut self.rng),
-                _ => records::garbage(&mut self.rng),
+            let lent = match index % 3 {
+                0 => lent::mid_run(&mut self.rng),
+                1 => lent::sound(&mut self.rng),
+                _ => lent::garbage(&mut self.rng),
             };
-            self.write_lengths(&snapshot.machine, &snapshot.memory)?;
+            let mut state = State::from(lent);
+            state.append(&mut self.rng);
+            self.write_lengths(&state)?;
         }
         Ok(())
     }
@@ -112,35 +114,31 @@ impl Comparison {
     /// Reads and writes with memories that are too short.
     pub fn short_memories(&mut self, samples: &[Sample]) -> Result<(), String> {
         for words in SHORT_MEMORIES {
-            for snapshot in [records::sound, records::garbage].map(|make| make(&mut self.rng)) {
-                self.write_lengths(&snapshot.machine, &snapshot.memory[..words])?;
-                let start = Start::new(&mut self.rng, snapshot.machine, words);
-                let mut reading = Reading::new(start);
-                for bytes in samples.iter().map(|sample| &sample.bytes) {
-                    for image in [&bytes[..], &bytes[..bytes.len() / 2], &[]] {
-                        self.tally.add(Call::Read, reading.compare(image)?);
-                    }
-                }
+            for lent in [lent::sound, lent::garbage].map(|make| make(&mut self.rng)) {
+                let start = start_of(&mut self.rng, &lent, words);
+                self.read_all(start, samples)?;
             }
         }
         Ok(())
     }
 
-    /// Reads into records that are too short: 8, and all stays. Only the
-    /// library takes a record as bytes.
+    /// Reads into records that are too short, and writes of them: 8.
     pub fn short_records(&mut self, samples: &[Sample]) -> Result<(), String> {
-        for length in [0, 1, RECORD_BYTES - 1] {
-            for sample in samples {
-                let mut start = Start::random(&mut self.rng);
-                start.bytes.truncate(length);
-                let mut left = start.clone();
-                let number = library::read(&sample.bytes, &mut left.bytes, &mut left.words);
-                if number != 8 || left.bytes != start.bytes || left.words != start.words {
-                    return Err(format!(
-                        "record of {length} bytes: library answers {number}"
-                    ));
-                }
-                self.tally.add(Call::Read, number);
+        for words in [0, MEMORY_WORDS - 1, MEMORY_WORDS, MEMORY_WORDS] {
+            let lent = lent::short(&mut self.rng);
+            let words: Vec<u32> = (0..words).map(|_| self.rng.next() as u32).collect();
+            self.read_all(State::new(&lent.bytes, &words), samples)?;
+        }
+        Ok(())
+    }
+
+    /// Writes a state, and reads all, half and nothing of the images over it.
+    fn read_all(&mut self, start: State, samples: &[Sample]) -> Result<(), String> {
+        self.write_lengths(&start)?;
+        let mut reading = Reading::new(start);
+        for bytes in samples.iter().map(|sample| &sample.bytes) {
+            for image in [&bytes[..], &bytes[..bytes.len() / 2], &[]] {
+                self.tally.add(Call::Read, reading.compare(image)?);
             }
         }
         Ok(())
@@ -170,10 +168,9 @@ impl Comparison {
     /// Reads an image that is accepted and writes back what it gave.
     fn read_and_write(&mut self, image: &[u8]) -> Result<(), String> {
         let index = self.read(image)?;
-        let machine = self.readings[index].machine.clone();
-        let words = std::mem::take(&mut self.readings[index].words);
-        let written = self.write_lengths(&machine, &words);
-        self.readings[index].words = words;
+        let state = std::mem::take(&mut self.readings[index].pair.library);
+        let written = self.write_lengths(&state);
+        self.readings[index].pair.library = state;
         written?;
         if self.writing.output(image.len()) != image {
             return Err(format!("not written back: {}", crate::hex(image)));
@@ -181,14 +178,17 @@ impl Comparison {
         Ok(())
     }
 
-    /// Writes a machine to outputs that are too short, longer, and last of
-    /// the length of its image.
-    fn write_lengths(&mut self, machine: &Machine, words: &[u32]) -> Result<(), String> {
-        let exact = image_length(machine).min(LONGEST_OUTPUT);
+    /// Writes a state to outputs that are too short, longer, and last of the
+    /// length of its image; of any length if there is none.
+    fn write_lengths(&mut self, state: &State) -> Result<(), String> {
+        let exact = match machine_from_bytes(&state.record) {
+            Ok(machine) => image_length(&machine),
+            Err(_) => self.rng.between(1, LONGEST_OUTPUT as u32) as usize,
+        };
         let longer = (exact + 1 + self.rng.below(60) as usize).min(LONGEST_OUTPUT);
         let shorter = self.rng.below(exact as u32) as usize;
         for length in [exact - 1, shorter, longer, exact] {
-            let number = self.writing.compare(machine, words, length)?;
+            let number = self.writing.compare(state, length)?;
             self.tally.add(Call::Write, number);
         }
         Ok(())

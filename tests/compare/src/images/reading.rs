@@ -1,69 +1,46 @@
 //! One read by both implementations.
 
-use crate::{hex, library};
-use generator::{records, Rng};
-use reference::record::RECORD_BYTES;
-use reference::{read_image, record_bytes, Machine, MEMORY_WORDS};
+use crate::hex;
+use crate::state::{Pair, State};
+use generator::lent::{self, Lent};
+use generator::Rng;
+use reference::MEMORY_WORDS;
 
 /// Most bytes of an input that a difference shows.
 const SHOWN: usize = 40_000;
 
-/// What there is before a read: a record as bytes, some with more bytes after
-/// it, and words.
-#[derive(Clone, Debug)]
-pub struct Start {
-    pub machine: Machine,
-    pub bytes: Vec<u8>,
-    pub words: Vec<u32>,
+/// Bytes of any kind and random words, at times more than are needed.
+pub fn start(rng: &mut Rng) -> State {
+    let lent = match rng.below(3) {
+        0 => lent::mid_run(rng),
+        1 => lent::sound(rng),
+        _ => lent::garbage(rng),
+    };
+    let words = MEMORY_WORDS + rng.pick(&[0, 0, 1, 100]);
+    start_of(rng, &lent, words)
 }
 
-impl Start {
-    /// A record of any kind, and random words, at times more than are needed.
-    pub fn random(rng: &mut Rng) -> Start {
-        let machine = match rng.below(3) {
-            0 => records::mid_run(rng).machine,
-            1 => records::sound(rng).machine,
-            _ => records::garbage(rng).machine,
-        };
-        let words = MEMORY_WORDS + rng.pick(&[0, 0, 1, 100]);
-        Start::new(rng, machine, words)
-    }
-
-    /// A record with this many random words.
-    pub fn new(rng: &mut Rng, machine: Machine, words: usize) -> Start {
-        let mut bytes = record_bytes(&machine);
-        let after = rng.pick(&[0, 0, 1, 40]);
-        bytes.extend((0..after).map(|_| rng.next() as u8));
-        let words = (0..words).map(|_| rng.next() as u32).collect();
-        Start {
-            machine,
-            bytes,
-            words,
-        }
-    }
+/// A record with this many random words, at times with bytes after it.
+pub fn start_of(rng: &mut Rng, lent: &Lent, words: usize) -> State {
+    let words: Vec<u32> = (0..words).map(|_| rng.next() as u32).collect();
+    let mut state = State::new(&lent.bytes, &words);
+    state.append(rng);
+    state
 }
 
 /// What both implementations left behind.
 #[derive(Clone, Debug)]
 pub struct Reading {
-    start: Start,
-    /// What the library left.
-    pub bytes: Vec<u8>,
-    pub words: Vec<u32>,
-    /// What the reference left.
-    pub machine: Machine,
-    memory: Vec<u32>,
-    /// Whether they are still what they were at the start.
+    start: State,
+    pub pair: Pair,
+    /// Whether it is still what it was at the start.
     as_before: bool,
 }
 
 impl Reading {
-    pub fn new(start: Start) -> Reading {
+    pub fn new(start: State) -> Reading {
         Reading {
-            bytes: start.bytes.clone(),
-            words: start.words.clone(),
-            machine: start.machine.clone(),
-            memory: start.words.clone(),
+            pair: Pair::new(&start),
             as_before: true,
             start,
         }
@@ -71,55 +48,25 @@ impl Reading {
 
     /// Reads an image from the start on. Gives the number, or the difference.
     pub fn compare(&mut self, image: &[u8]) -> Result<u8, String> {
-        self.restore();
-        let given = library::read(image, &mut self.bytes, &mut self.words);
-        let due = match read_image(image, &mut self.machine, &mut self.memory) {
-            Ok(()) => 0,
-            Err(refusal) => refusal.number(),
-        };
-        self.as_before = due != 0;
-        if given == due && self.same() {
-            return Ok(due);
+        if !self.as_before {
+            self.pair.set(&self.start);
         }
         self.as_before = false;
-        Err(self.difference(image, given, due))
-    }
-
-    /// Puts all back to what it was at the start.
-    fn restore(&mut self) {
-        if !self.as_before {
-            self.bytes.copy_from_slice(&self.start.bytes);
-            self.words.copy_from_slice(&self.start.words);
-            self.machine.clone_from(&self.start.machine);
-            self.memory.copy_from_slice(&self.start.words);
+        let number = self.pair.read(image);
+        let number = number.map_err(|what| self.described(image, &what))?;
+        self.as_before = number != 0;
+        if self.as_before && self.pair.reference != self.start {
+            return Err(self.described(image, "changed by a refused read"));
         }
+        Ok(number)
     }
 
-    /// Whether both left the same; after a refusal, what was there before.
-    fn same(&self) -> bool {
-        if self.as_before && (self.bytes != self.start.bytes || self.words != self.start.words) {
-            return false;
-        }
-        let (record, after) = self.bytes.split_at(RECORD_BYTES);
-        record == record_bytes(&self.machine)
-            && *after == self.start.bytes[RECORD_BYTES..]
-            && self.words == self.memory
-    }
-
-    fn difference(&self, image: &[u8], given: u8, due: u8) -> String {
-        let places = self.words.iter().zip(&self.memory);
-        let word = match places.into_iter().position(|(a, b)| a != b) {
-            Some(place) => format!("first at word {place}"),
-            None => "none".to_string(),
-        };
+    fn described(&self, image: &[u8], what: &str) -> String {
         format!(
-            "read of {} bytes: library answers {given}, reference {due}\n\
-             record before {}\nrecord, library {}\nrecord, reference {}\n\
-             words that differ: {word}\nimage {}",
+            "{what}\nrecord before {}\n{} words, image of {} bytes {}",
+            hex(&self.start.record),
+            self.start.words.len(),
             image.len(),
-            hex(&self.start.bytes),
-            hex(&self.bytes),
-            hex(&record_bytes(&self.machine)),
             hex(&image[..image.len().min(SHOWN)]),
         )
     }

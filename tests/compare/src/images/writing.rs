@@ -1,18 +1,22 @@
 //! One write by both implementations.
 
-use crate::references::REFUSED;
+use crate::state::State;
 use crate::{hex, library};
-use reference::{record_bytes, write_image, Machine, LONGEST_IMAGE};
+use reference::host::{self, REFUSED};
+use reference::LONGEST_IMAGE;
+use std::hint::black_box;
 
 /// Longest output that is lent.
 pub const LONGEST_OUTPUT: usize = LONGEST_IMAGE + 64;
 
-/// Two outputs, and what they hold before a write.
+/// Two outputs, what they hold before a write, and what is written.
 #[derive(Clone, Debug)]
 pub struct Writing {
     before: Vec<u8>,
     given: Vec<u8>,
     due: Vec<u8>,
+    /// The state as it is lent to the library, which leaves it.
+    lent: State,
 }
 
 impl Writing {
@@ -22,38 +26,34 @@ impl Writing {
             given: before.clone(),
             due: before.clone(),
             before,
+            lent: State::default(),
         }
     }
 
-    /// Writes the image of a machine to an output of `length` bytes. Gives
-    /// the number, or the difference.
-    pub fn compare(
-        &mut self,
-        machine: &Machine,
-        words: &[u32],
-        length: usize,
-    ) -> Result<u8, String> {
+    /// Writes the image of a record and its words to an output of `length`
+    /// bytes. Gives the number, or the difference.
+    pub fn compare(&mut self, state: &State, length: usize) -> Result<u8, String> {
+        let State { record, words } = state;
         let before = &self.before[..length];
         let given = &mut self.given[..length];
         let due = &mut self.due[..length];
         given.copy_from_slice(before);
         due.copy_from_slice(before);
-        let bytes = record_bytes(machine);
-        let code = library::write(&bytes, words, given);
-        let expected = match write_image(machine, words, due) {
-            Ok(length) => length as u32,
-            Err(refusal) => REFUSED + u32::from(refusal.number()),
-        };
+        let lent = &mut self.lent;
+        lent.clone_from(state);
+        let code = library::write(&lent.record, &lent.words, given);
+        let expected = host::write(record, words, due);
         let written = if expected < REFUSED { expected } else { 0 } as usize;
         let past_as_before = given[written..] == before[written..];
-        if code == expected && given == due && past_as_before {
+        let lent_as_before = *black_box(lent) == *state;
+        if code == expected && given == due && past_as_before && lent_as_before {
             return Ok(expected.saturating_sub(REFUSED) as u8);
         }
         Err(format!(
             "write to {length} bytes, {} words: library answers {code:#x}, reference {expected:#x}\n\
-             record {}\noutput, library {}\noutput, reference {}",
+             record and words as before: {lent_as_before}\nrecord {}\noutput, library {}\noutput, reference {}",
             words.len(),
-            hex(&bytes),
+            hex(record),
             hex(given),
             hex(due),
         ))

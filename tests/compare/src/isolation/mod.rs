@@ -10,34 +10,18 @@ pub use claim::{compare, Broken, Claim, Maker, Sees};
 pub use met::Met;
 
 use crate::library;
-use crate::runs::Call;
 use generator::records::{self, Snapshot};
 use generator::{program, Rng};
-use reference::record::RECORD_BYTES;
-use reference::{machine_from_bytes, may_see, read_image, record_bytes, Machine, MEMORY_WORDS};
+use reference::{may_see, read_image, Machine, MEMORY_WORDS};
 
 /// Most stretches made one after the other.
 const IN_A_ROW: u32 = 5;
-
-/// A stretch by the library.
-pub fn by_library(bytes: &mut [u8], words: &mut [u32], limit: u16) -> u32 {
-    Call::Stretch(limit).by_library(bytes, words)
-}
-
-/// A stretch by the reference.
-pub fn by_reference(bytes: &mut [u8], words: &mut [u32], limit: u16) -> u32 {
-    let record = &mut bytes[..RECORD_BYTES];
-    let mut machine = machine_from_bytes(record).expect("a record");
-    let code = Call::Stretch(limit).by_reference(&mut machine, words);
-    record.copy_from_slice(&record_bytes(&machine));
-    code
-}
 
 /// Compares `count` stretches by the library. Says what is broken, or what
 /// was met.
 pub fn compare_isolation(seed: u64, count: u64) -> Result<Met, String> {
     library::linked()?;
-    compare_stretches(seed, count, by_library)
+    compare_stretches(seed, count, library::stretch)
 }
 
 /// Compares `count` stretches and a few more.

@@ -1,23 +1,20 @@
-//! A call of the processor, and the code that it answers.
+//! A call that executes instructions, and the code that it answers.
 
 use crate::library;
-use reference::{Ending, Machine, Refusal, Run, Step};
+use reference::host;
 
 /// A call. Each has a limit; a step's is 1.
 #[derive(Clone, Copy, Debug, PartialEq, Eq)]
 pub enum Call {
     Run(u16),
     Stretch(u16),
-    /// One instruction, for which the reference has a function of its own.
     Step,
-    /// A run, asked for with a byte other than 0 and 1.
-    OtherByte(u16, u8),
 }
 
 impl Call {
     pub fn limit(self) -> u16 {
         match self {
-            Call::Run(limit) | Call::Stretch(limit) | Call::OtherByte(limit, _) => limit,
+            Call::Run(limit) | Call::Stretch(limit) => limit,
             Call::Step => 1,
         }
     }
@@ -26,24 +23,29 @@ impl Call {
         matches!(self, Call::Stretch(_))
     }
 
-    /// Makes the call by the library; gives its code.
-    pub fn by_library(self, bytes: &mut [u8], words: &mut [u32]) -> u32 {
-        let stretches = match self {
-            Call::Run(_) | Call::Step => 0,
-            Call::Stretch(_) => 1,
-            Call::OtherByte(_, byte) => byte,
-        };
-        library::run(bytes, words, self.limit(), stretches)
+    /// Makes the call by the library; gives its answer.
+    pub fn by_library(self, record: &mut [u8], words: &mut [u32]) -> u32 {
+        match self {
+            Call::Run(limit) => library::run(record, words, limit),
+            Call::Stretch(limit) => library::stretch(record, words, limit),
+            Call::Step => library::step(record, words).into(),
+        }
     }
 
-    /// Makes the call by the reference; gives the code that is due.
-    pub fn by_reference(self, machine: &mut Machine, memory: &mut [u32]) -> u32 {
+    /// Makes the call by the reference; gives the answer that is due.
+    pub fn by_reference(self, record: &mut [u8], words: &mut [u32]) -> u32 {
         match self {
-            Call::Run(limit) | Call::OtherByte(limit, _) => {
-                code_of(reference::run(machine, memory, limit))
-            }
-            Call::Stretch(limit) => code_of(reference::stretch(machine, memory, limit)),
-            Call::Step => code_of_step(reference::step(machine, memory)),
+            Call::Run(limit) => host::run(record, words, limit),
+            Call::Stretch(limit) => host::stretch(record, words, limit),
+            Call::Step => host::step(record, words).into(),
+        }
+    }
+
+    /// The code of an answer: that of a run or stretch is one.
+    pub fn code(self, answer: u32) -> u32 {
+        match self {
+            Call::Run(_) | Call::Stretch(_) => answer,
+            Call::Step => code_of_step(answer),
         }
     }
 }
@@ -83,25 +85,12 @@ pub fn number(code: u32) -> u8 {
     (code >> 16) as u8
 }
 
-/// The code of a run or stretch.
-pub fn code_of(answer: Result<Run, Refusal>) -> u32 {
+/// The code that a run of limit 1 gives where a step gives this answer.
+fn code_of_step(answer: u32) -> u32 {
     match answer {
-        Err(refusal) => code(Kind::Refused, refusal.number(), 0),
-        Ok(run) => match run.ending {
-            Ending::Halted => code(Kind::Halted, 0, run.count),
-            Ending::Faulted(fault) => code(Kind::Faulted, fault.number(), run.count),
-            Ending::Spent => code(Kind::Spent, 0, run.count),
-            Ending::Crossed => code(Kind::Crossed, 0, run.count),
-        },
-    }
-}
-
-/// The code of a step: a run of limit 1 is spent unless it halts or faults.
-fn code_of_step(step: Step) -> u32 {
-    match step.number {
-        0 if step.halted => code(Kind::Halted, 0, 1),
         0 => code(Kind::Spent, 0, 1),
-        fault @ 21.. => code(Kind::Faulted, fault, 0),
-        refusal => code(Kind::Refused, refusal, 0),
+        0x100 => code(Kind::Halted, 0, 1),
+        1..=20 => code(Kind::Refused, answer as u8, 0),
+        _ => code(Kind::Faulted, answer as u8, 0),
     }
 }

@@ -6,15 +6,18 @@ mod pair;
 mod states;
 mod tally;
 
-pub use call::{code, code_of, kind, number, Call, Kind};
-pub use pair::{both_call, both_run_image, Pair};
+pub use call::{code, kind, number, Call, Kind};
+pub use pair::{both_call, both_run_image};
 pub use tally::Tally;
 
+use crate::state::{Pair, State};
 use crate::{hex, library};
-use generator::records::{self, Snapshot};
+use generator::lent::{self, Lent};
 use generator::{damaged_image, image, Rng};
-use reference::record::{ACTIVATION_POINTER, FRAMES};
-use reference::{record_bytes, Machine, MEMORY_WORDS};
+use reference::bytes::put_record;
+use reference::host::code_of;
+use reference::record::ACTIVATION_POINTER;
+use reference::{machine_from_bytes, Machine, MEMORY_WORDS, RECORD_BYTES};
 use std::ops::Range;
 
 /// Most words that are lent past the 8,192.
@@ -34,7 +37,7 @@ pub struct Comparison {
     seed: u64,
     pair: Pair,
     /// The state before the last call.
-    before: Snapshot,
+    before: State,
     /// Words that memories begin with.
     words: Vec<u32>,
 }
@@ -49,15 +52,12 @@ impl Comparison {
             tally: Tally::default(),
             seed,
             pair: Pair::default(),
-            before: Snapshot {
-                machine: Machine::default(),
-                memory: Vec::new(),
-            },
+            before: State::default(),
             words: words.collect(),
         })
     }
 
-    /// Images of these indexes, read into an empty record and run.
+    /// Images of these indexes, read over bytes of any kind and run.
     pub fn generated(&mut self, indexes: Range<u64>) -> Result<(), String> {
         for index in indexes {
             let mut rng = Rng::new(self.seed ^ 1, index);
@@ -75,8 +75,8 @@ impl Comparison {
             let mut rng = Rng::new(self.seed ^ 2, index);
             let bytes = damaged_image(self.seed, index);
             let start = match rng.below(2) {
-                0 => records::mid_run(&mut rng),
-                _ => records::sound(&mut rng),
+                0 => lent::mid_run(&mut rng),
+                _ => lent::sound(&mut rng),
             };
             self.image(&mut rng, index, &bytes, Some(&start))
                 .map_err(|what| described("damaged image", index, &bytes, &what))?;
@@ -90,7 +90,7 @@ impl Comparison {
         rng: &mut Rng,
         index: u64,
         bytes: &[u8],
-        start: Option<&Snapshot>,
+        start: Option<&Lent>,
     ) -> Result<(), String> {
         self.read(rng, bytes, start)?;
         self.call(Call::Run(first_limit(rng, index)))?;
@@ -103,38 +103,35 @@ impl Comparison {
     }
 
     /// Reads an image over a state of both.
-    fn read(
-        &mut self,
-        rng: &mut Rng,
-        bytes: &[u8],
-        start: Option<&Snapshot>,
-    ) -> Result<(), String> {
+    fn read(&mut self, rng: &mut Rng, bytes: &[u8], start: Option<&Lent>) -> Result<(), String> {
         self.begin(rng, start);
         let read = self.pair.read(bytes);
         let number = read.map_err(|what| format!("{what}\n{}", self.state_before()))?;
+        if number != 0 && self.pair.reference != self.before {
+            return Err(format!("changed by a refused read, {number}"));
+        }
         self.tally.add_read(number);
-        self.before.machine.clone_from(&self.pair.machine);
-        self.before.memory.copy_from_slice(&self.pair.memory);
+        self.before.clone_from(&self.pair.reference);
         Ok(())
     }
 
-    /// Gives both a state: the one given, else an empty record. The words
-    /// past its segments are random, at times more than 8,192 in all.
-    fn begin(&mut self, rng: &mut Rng, start: Option<&Snapshot>) {
+    /// Gives both a state: the one given, else a record that holds nothing.
+    /// The words past its segments are random, at times more than 8,192 in all.
+    fn begin(&mut self, rng: &mut Rng, start: Option<&Lent>) {
         let length = MEMORY_WORDS + rng.pick(&[0, 0, 0, 1, MORE_WORDS]);
-        let after = rng.pick(&[0, 0, 0, 1, 40]);
-        let mut machine = Machine::default();
-        let memory = &mut self.before.memory;
-        memory.clear();
-        memory.extend_from_slice(&self.words[..length]);
-        if let Some(start) = start {
-            machine.clone_from(&start.machine);
-            let words = existing_words(&machine);
-            memory[..words].copy_from_slice(&start.memory[..words]);
+        let State { record, words } = &mut self.before;
+        words.clear();
+        words.extend_from_slice(&self.words[..length]);
+        match start {
+            None => *record = no_record(rng),
+            Some(start) => {
+                record.clone_from(&start.bytes);
+                let existing = existing_words(&start.machine);
+                words[..existing].copy_from_slice(&start.words[..existing]);
+            }
         }
-        let after: Vec<u8> = (0..after).map(|_| rng.next() as u8).collect();
-        self.pair.set(&machine, memory, &after);
-        self.before.machine = machine;
+        self.before.append(rng);
+        self.pair.set(&self.before);
     }
 
     /// Calls on a machine that has run before, up to one that ends it.
@@ -154,15 +151,18 @@ impl Comparison {
     /// Turns the tag of a register or of a frame's recorded s, in both states;
     /// programs seldom do that between a call and its return.
     fn turn_a_tag(&mut self, rng: &mut Rng) {
-        let Snapshot { machine, memory } = &mut self.before;
-        let frames = usize::from(machine.frame_count).min(FRAMES);
+        let Ok(mut machine) = machine_from_bytes(&self.before.record) else {
+            return;
+        };
+        let frames = usize::from(machine.frame_count);
         let turned = match rng.below(4) {
             0 => &mut machine.pointers[rng.below(8) as usize],
             1 if frames > 0 => &mut machine.frames[frames - 1].s,
             _ => &mut machine.pointers[ACTIVATION_POINTER],
         };
         turned.tag = !turned.tag;
-        self.pair.set_both(machine, memory);
+        put_record(&machine, &mut self.before.record);
+        self.pair.set(&self.before);
     }
 
     /// Single steps in a row, up to a HALT or a fault and one beyond it.
@@ -190,9 +190,7 @@ impl Comparison {
 
     /// A refused call leaves all as it was.
     fn left_alone_if_refused(&self, code: u32) -> Result<(), String> {
-        let Snapshot { machine, memory } = &self.before;
-        let same = || self.pair.machine == *machine && self.pair.memory == *memory;
-        if kind(code) != Some(Kind::Refused) || same() {
+        if kind(code) != Some(Kind::Refused) || self.pair.reference == self.before {
             return Ok(());
         }
         Err(format!("changed by a refused call, {code:#010x}"))
@@ -201,16 +199,18 @@ impl Comparison {
     /// Brings the state before the call up to date: a run or stretch is made
     /// once more, instruction by instruction, and what it reached is counted.
     fn watch(&mut self, call: Call, code: u32) -> Result<(), String> {
-        let Snapshot { machine, memory } = &mut self.before;
-        let (limit, stretch) = (call.limit(), call.is_stretch());
+        let State { record, words } = &mut self.before;
+        let reached = &mut self.tally.reached;
         let watched = match call {
-            Call::Step => call.by_reference(machine, memory),
-            _ => {
-                let reached = &mut self.tally.reached;
-                code_of(reached.observe_run(machine, memory, limit, stretch))
-            }
+            Call::Step => call.code(call.by_reference(record, words)),
+            _ => code_of(machine_from_bytes(record).and_then(|mut machine| {
+                let (limit, stretch) = (call.limit(), call.is_stretch());
+                let run = reached.observe_run(&mut machine, words, limit, stretch)?;
+                put_record(&machine, record);
+                Ok(run)
+            })),
         };
-        if watched != code || *machine != self.pair.machine {
+        if watched != code || self.before != self.pair.reference {
             return Err(format!("{call:?} observed gives {watched:#010x}"));
         }
         Ok(())
@@ -218,15 +218,25 @@ impl Comparison {
 
     /// Record and existing words before the last call.
     fn state_before(&self) -> String {
-        let Snapshot { machine, memory } = &self.before;
-        let words = &memory[..existing_words(machine).min(memory.len())];
-        let bytes: Vec<u8> = words.iter().flat_map(|word| word.to_le_bytes()).collect();
+        let State { record, words } = &self.before;
+        let existing = machine_from_bytes(record).map_or(0, |machine| existing_words(&machine));
+        let shown = &words[..existing.min(words.len())];
+        let bytes: Vec<u8> = shown.iter().flat_map(|word| word.to_le_bytes()).collect();
         format!(
             "record before the call {}\nits words {}\nwords lent {}",
-            hex(&record_bytes(machine)),
+            hex(record),
             hex(&bytes),
-            memory.len()
+            words.len()
         )
+    }
+}
+
+/// Bytes that an image is read over: zeros, 0xEE, or random ones.
+fn no_record(rng: &mut Rng) -> Vec<u8> {
+    match rng.below(3) {
+        0 => vec![0; RECORD_BYTES],
+        1 => vec![0xEE; RECORD_BYTES],
+        _ => (0..RECORD_BYTES).map(|_| rng.next() as u8).collect(),
     }
 }
 
@@ -255,9 +265,8 @@ fn further_call(rng: &mut Rng) -> Call {
         3..=8 => rng.between(2, 60) as u16,
         _ => 1000,
     };
-    match rng.below(18) {
-        0..=5 => Call::Stretch(limit),
-        6 => Call::OtherByte(limit, rng.between(2, 255) as u8),
+    match rng.below(3) {
+        0 => Call::Stretch(limit),
         _ => Call::Run(limit),
     }
 }

@@ -30,7 +30,7 @@ impl Tally {
     /// Counts a call that gave a code.
     pub fn add_call(&mut self, call: Call, code: u32) {
         let row = match call {
-            Call::Run(_) | Call::OtherByte(..) => 0,
+            Call::Run(_) => 0,
             Call::Stretch(_) => 1,
             Call::Step => 2,
         };
