@@ -1,75 +1,35 @@
 -- Calls of step, each on what the one before left, make a stretch: only a crossing changes the number of frames in use.
 use Prim.Native.Nat.{ℕ, zero, suc, _+_, _≤_}
 use native.Mathlib.Omega.{arith}
-use mathlib.Core.Bool.{Bool, true, false}
+use mathlib.Core.Bool.{true}
 use mathlib.Core.List.{List}
+use mathlib.Core.Logic.{⊎-elim}
 use mathlib.Core.Path.{_≡_, refl}
 use borrow.Author.Tests.{le-leb, eq-eqb, ne-eqb}
-use lib.Dec.{leb}
-use lib.ListN.{length, getD}
-use Rattle.words.specs.Answer.{Answer, refuse, ok, if_then_else_}
-use Rattle.words.specs.declared.pointer.Pointer.{Pointer}
+use lib.ListN.{length}
+use Rattle.words.specs.Answer.{Answer, refuse, ok}
 use Rattle.state.specs.declared.record.Machine.{Machine}
-use Rattle.state.specs.Record.{noPointer, inUse}
 use Rattle.soundness.specs.Sound.{soundTest}
-use Rattle.references.specs.declared.flag.Access.the-variants as access
-use Rattle.references.specs.Check.{check}
-use Rattle.memory.specs.Reader.{Reader, readWord, fetch}
-use Rattle.crossings.specs.Crossing.{enterOf, leaveOf, entered, left}
-use Rattle.runs.specs.Step.{Act, stop, proceed, put, cross, Completion, stopped, proceeded, crossing, Done, done, decide, commit, execute}
+use Rattle.runs.specs.Step.{Completion, stopped, proceeded, crossing, Done, done, execute}
 use Rattle.runs.specs.Run.{after, afterCompletion, runFrom, judged}
 use Rattle.processor.specs.Calls.{stepped, stepCall}
-use Rattle.executions.proofs.Parts.{live, frameFor, leaveNumber}
-use Rattle.executions.proofs.Says.{Says, said, says-bind, says-then, says-accept}
-use Rattle.executions.proofs.Acts.{CrossesTo, decide-crosses}
-use Rattle.executions.proofs.Crossings.{leave-facts}
+use Rattle.executions.proofs.Made.{step-made, call-facts, return-facts}
 use Rattle.executions.proofs.Sound.{step-sound}
 use Rattle.executions.proofs.Words.{step-length}
 use Rattle.executions.proofs.Numbers.{fault-number}
 use Rattle.executions.specs.Called.{afterStep, stepsCalled}
-use Rattle.executions.specs.Statements.{SoundRecord, StepsStretch}
+use Rattle.executions.specs.Statements.{SoundRecord, Made, StepsStretch}
 
 -- only a crossing changes the number of frames in use
-module _ (m : Machine) where
-  abbrev Differs : Machine → Type 0
-  Differs n = n .depth ≡ m .depth → ⊥
+abbrev Told : Machine → Completion → Machine → Type 0
+Told m stopped n = Unit {0}
+Told m proceeded n = n .depth ≡ m .depth
+Told m crossing n = n .depth ≡ m .depth → ⊥
 
-  enter-differs : (read : Reader) (p : Pointer) → Says Differs (enterOf m read p)
-  unfolding enterOf entered
-  enter-differs read p = says-then Differs (frameFor m read) (λ f. ok (entered m p f)) (λ f e. omega (arith, e))
-
-  some-frame : (p : Pointer) → leaveNumber m p ≡ 0 → 1 ≤ m .depth
-  some-frame p z = by (leb (m .depth) 8) (leave-facts (m .layout .lengths) (m .layout .rights) (inUse (m .depth)) (live m) (getD (m .pointers) 1 noPointer) p z .0)
-    where
-      by : (t : Bool) → 1 ≤ (if t then m .depth else 0) → 1 ≤ m .depth
-      by true h = h
-      by false h = absurd (omega (arith, h))
-
-  leave-differs : (p : Pointer) → Says Differs (leaveOf m p)
-  unfolding leaveOf left
-  leave-differs p = says-accept Differs (leaveNumber m p) (left m p (live m)) (λ z e. omega (arith, some-frame p z, e))
-
-  abbrev Told : Completion → Machine → Type 0
-  Told stopped n = Unit {0}
-  Told proceeded n = n .depth ≡ m .depth
-  Told crossing n = Differs n
-
-  abbrev ToldBy : Done → Type 0
-  ToldBy d = Told (d .completion) (d .machine)
-
-  commit-depth : (words : List ℕ) (a : Act) → CrossesTo Differs a → Says ToldBy (commit m words a)
-  unfolding commit
-  commit-depth words stop h = tt
-  commit-depth words (proceed a s w ps) h = refl
-  commit-depth words (put p v) h = says-then ToldBy (check m access.Write p) _ (λ i. refl)
-  commit-depth words (cross n) h = h
-
-  step-depth : (words : List ℕ) (d : Done) → execute m words ≡ ok d → ToldBy d
-  unfolding execute
-  step-depth words d e =
-      said ToldBy _ d
-      (says-bind (CrossesTo Differs) ToldBy (decide m (fetch m words) (readWord m words)) (commit m words)
-      (decide-crosses m Differs enter-differs leave-differs (fetch m words) (readWord m words)) (commit-depth words)) e
+told : (m : Machine) (words : List ℕ) (e : Completion) (n : Machine) → Made m words e n → Told m e n
+told m words stopped n h = tt
+told m words proceeded n h = h .1
+told m words crossing n h = ⊎-elim (λ c q. omega (arith, q, call-facts m n words (c .gate) (c .made) .depth)) (λ r q. omega (arith, q, return-facts m n (r .back) (r .made) .depth)) h
 
 -- a call that is not refused
 call-accepted : (m : Machine) (words : List ℕ) → soundTest m ≡ true → 8192 ≤ length words → stepCall m words ≡ stepped m words (execute m words)
@@ -93,5 +53,5 @@ steps-stretch (suc k) n m words sound long =
         → afterStep (stepsCalled k (n + 1)) n m (stepped m words e) ≡ after true (runFrom true k (n + 1)) n m words e
     by (refuse f) q more = rw (ne-eqb f 0 (λ z. omega (arith, z, fault-number m words f q .0))) refl
     by (ok d) q more =
-        completes (d .completion) (d .machine) (d .words) (step-depth m words d q)
+        completes (d .completion) (d .machine) (d .words) (told m words (d .completion) (d .machine) (step-made m words d q))
         (more (d .machine) (d .words) (step-sound m words sound d q) (rw (step-length m words d q) long))

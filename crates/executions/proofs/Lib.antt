@@ -15,4 +15,5 @@ pub mod Fails
 pub mod CheckNumbers
 pub mod PlanNumbers
 pub mod Numbers
+pub mod Made
 pub mod Called

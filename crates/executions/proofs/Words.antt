@@ -74,7 +74,7 @@ module _ (l : Layout) (words : List ℕ) (m : Machine) (now : List ℕ) (h : Cam
   step-came d e =
       said CameBy _ d
       (says-bind (CrossesTo (Same m)) CameBy (decide m (fetch m now) (readWord m now)) (commit m now)
-      (decide-crosses m (Same m) (enter-same m) (leave-same m) (fetch m now) (readWord m now)) commit-came) e
+      (decide-crosses m (Same m) (fetch m now) (readWord m now) (λ p e. enter-same m (readWord m now) p) (λ p e. leave-same m p)) commit-came) e
 
 pub step-length : (m : Machine) (words : List ℕ) (d : Done) → execute m words ≡ ok d → length (d .words) ≡ length words
 step-length m words d e = step-came (m .layout) words m words (record { layout = refl; room = refl; past = λ i l. refl }) d e .room

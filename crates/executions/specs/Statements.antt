@@ -2,13 +2,19 @@
 use Prim.Native.Nat.{ℕ, _+_, _≤_}
 use mathlib.Core.Bool.{Bool, true, false}
 use mathlib.Core.List.{List}
+use mathlib.Core.Logic.{_⊎_}
 use mathlib.Core.Path.{_≡_}
 use lib.ListN.{getD, length}
-use Rattle.words.specs.Answer.{refuse, ok}
+use Rattle.words.specs.Answer.{Answer, refuse, ok}
+use Rattle.words.specs.declared.pointer.Pointer.{Pointer}
 use Rattle.state.specs.declared.record.Machine.{Machine}
 use Rattle.state.specs.Bases.{wordsIn}
 use Rattle.soundness.specs.Sound.{soundTest}
-use Rattle.runs.specs.Step.{Done, execute}
+use Rattle.memory.specs.Reader.{readWord, fetch}
+use Rattle.instructions.specs.Plan.{Plan, enter, leave}
+use Rattle.instructions.specs.Instruction.{planOf}
+use Rattle.crossings.specs.Crossing.{enterOf, leaveOf}
+use Rattle.runs.specs.Step.{Completion, stopped, proceeded, crossing, Done, execute}
 use Rattle.runs.specs.Run.{ran, spent, faulted, refused, runFrom, judged}
 use Rattle.processor.specs.Calls.{Step, stepCall, runCall, stretchCall}
 use Rattle.processor.specs.Steps.{afterStretch}
@@ -29,6 +35,31 @@ StepSound = (m : Machine) (words : List ℕ) → SoundRecord m → (d : Done) �
 -- so does a run or a stretch of at most k instructions, n completed before it
 abbrev pub RunSound : Type 0
 RunSound = (m : Machine) (words : List ℕ) → SoundRecord m → (stretch : Bool) (k n : ℕ) → SoundRecord (runFrom stretch k n m words .machine)
+
+-- what the instruction at the location asks for
+abbrev pub plannedBy : Machine → List ℕ → Answer Plan
+plannedBy m words =
+    planOf (m .layout .lengths) (m .layout .gates) (m .layout .rights) (m .layout .stacks) (m .depth) (m .registers) (m .pointers) (fetch m words) (readWord m words)
+
+-- a completed crossing is of an instruction that asks for a call through a gate, or for a return from one, and was granted it
+pub record CalledTo (m : Machine) (words : List ℕ) (n : Machine) : Type 0 where
+  pub gate : Pointer
+  pub asked : plannedBy m words ≡ ok (enter gate)
+  pub made : enterOf m (readWord m words) gate ≡ ok n
+
+pub record ReturnedTo (m : Machine) (words : List ℕ) (n : Machine) : Type 0 where
+  pub back : Pointer
+  pub asked : plannedBy m words ≡ ok (leave back)
+  pub made : leaveOf m back ≡ ok n
+
+-- what a completed instruction made of the record m: HALT nothing; all but a crossing keep the executing domain and the number of frames in use
+abbrev pub Made : Machine → List ℕ → Completion → Machine → Type 0
+Made m words stopped n = n ≡ m
+Made m words proceeded n = (n .registers .domain ≡ m .registers .domain) × (n .depth ≡ m .depth)
+Made m words crossing n = CalledTo m words n ⊎ ReturnedTo m words n
+
+abbrev pub StepMade : Type 0
+StepMade = (m : Machine) (words : List ℕ) (d : Done) → execute m words ≡ ok d → Made m words (d .completion) (d .machine)
 
 -- a run is its first stretch, and a run from where that crossed
 abbrev pub RunStretches : Type 0
