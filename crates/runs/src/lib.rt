@@ -12,7 +12,7 @@ use soundness::sound;
 use state::record::Machine;
 
 // What every call judges first: 0, or the number of its refusal.
-fn judge(m: Machine, words: &[u32]) -> u8
+pub fn judge(m: Machine, words: &[u32]) -> u8
     ensures { λ r. ⌜ r ≡ judged m (now (words .entry)) ⌝ }
 {
     if !sound(m) {
