@@ -1,0 +1,3 @@
+pub mod Crossings
+pub mod Logs
+pub mod LogBack
