@@ -1,13 +1,13 @@
 -- What the program prints for an image.
 use Prim.Native.Nat.{ℕ}
 use mathlib.Core.List.{List, [], _∷_, _++_}
-use lib.ListN.{length, replicate}
+use lib.ListN.{length}
 use Rattle.words.specs.Answer.{Answer, refuse, ok}
 use Rattle.state.specs.declared.record.Registers.{Registers}
 use Rattle.runs.specs.Run.{Ending, halted, spent, crossed, faulted, refused}
-use Rattle.image_format.specs.Output.{written}
 use Rattle.entry.specs.ImageRun.{Final, imageRun}
-use Rattle.report.specs.Text.{text, labelled, line}
+use Rattle.text.specs.Text.{text, labelled, line}
+use Rattle.text.specs.Put.{printedIn}
 use Rattle.report.specs.declared.Printed.{Printed}
 
 -- how a run ended; no run of an image ends at a crossing or as refused
@@ -37,4 +37,4 @@ reportOf image = answerText (imageRun 1000 image)
 
 -- the bytes from the start of 96 zeros
 abbrev pub printedOf : List ℕ → Printed
-printedOf xs = record { bytes = written (replicate 96 0) 0 xs; length = length xs }
+printedOf xs = record { bytes = printedIn 96 xs; length = length xs }

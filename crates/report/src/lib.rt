@@ -1,6 +1,5 @@
 // What the program prints for an image.
 mod lines;
-mod text;
 
 ghost use mathlib.Core.Path.{_≡_};
 ghost use Prim.Native.Nat.{_≤_};

@@ -4,35 +4,14 @@ ghost use mathlib.Core.List.{_++_, _∷_, []};
 ghost use Prim.Native.Nat.{_+_, _≤_};
 ghost use lib.ListN.{length};
 ghost use Rattle.image_format.specs.Output.{written};
-ghost use Rattle.report.specs.Text.{text, labelled, line};
+ghost use Rattle.text.specs.Text.{text, labelled, line};
 ghost use Rattle.report.specs.Report.{endText, restText};
 ghost use Rattle.runs.specs.Run.{endAnswer};
-use crate::text::put_decimal;
-use crate::text::put_text;
 use runs::outcome::End;
 use state::record::Registers;
-
-// A label and a number, from a place on; the place after them.
-fn put_field(output: &mut [u8], at: usize, label: &[u8], n: u32) -> usize
-    requires { ⌜ at + length (now label) + 10 ≤ length (now output) ⌝ }
-    ensures { λ r. ⌜ r ≡ at + length (labelled (now (label .entry)) n) ⌝ }
-    ensures { λ r. ⌜ now (output .exit) ≡ written (now (output .entry)) at (labelled (now (label .entry)) n) ⌝ }
-    ensures { λ r. ⌜ r ≤ at + length (now (label .entry)) + 10 ⌝ }
-{
-    let next = put_text(output, at, label);
-    put_decimal(output, next, n)
-}
-
-// The same as a line.
-fn put_line(output: &mut [u8], at: usize, label: &[u8], n: u32) -> usize
-    requires { ⌜ at + length (now label) + 11 ≤ length (now output) ⌝ }
-    ensures { λ r. ⌜ r ≡ at + length (line (labelled (now (label .entry)) n)) ⌝ }
-    ensures { λ r. ⌜ now (output .exit) ≡ written (now (output .entry)) at (line (labelled (now (label .entry)) n)) ⌝ }
-    ensures { λ r. ⌜ r ≤ at + length (now (label .entry)) + 11 ⌝ }
-{
-    let next = put_field(output, at, label, n);
-    put_text(output, next, b"\n")
-}
+use text::put_field;
+use text::put_line;
+use text::put_text;
 
 // The location's line.
 fn put_location(output: &mut [u8], at: usize, segment: u8, word: u16) -> usize

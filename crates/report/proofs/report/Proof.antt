@@ -7,10 +7,10 @@ use mathlib.Core.Logic.{⊎-elim}
 use mathlib.Core.Path.{sym, _∙_}
 use lib.ListN.{replicate, length-replicate}
 use types.Run.{OneOf}
-use Rattle.report.specs.Text.{line}
+use Rattle.text.specs.Text.{line}
 use Rattle.report.specs.Report.{endText, restText}
-use Rattle.report.proofs.Puts.{puts-more}
-use Rattle.report.proofs.Reports.{printed, counts, report-refused, report-passed}
+use Rattle.text.proofs.Puts.{puts-more, printed-counts}
+use Rattle.report.proofs.Reports.{printed, report-refused, report-passed}
 use borrow.Author.Needs.{needs}
 use Rattle.report.proofs.report.Statement.{statement}
 use Rattle.report.proofs.report.Tie as tie
@@ -45,7 +45,7 @@ returns c =
     let r = e .before .before .before .before in
     let p = e .put-end .ensures in (
       printed _ _ _ _ (report-refused (r .before .before .args .image .now) (r .run-image .result) (r .run-image .ensures) _ (n .end .given .1)) (p .0) (p .1 .0),
-      counts _ _ _ (omega (arith, p .1 .1)) (p .0) (p .1 .0),
+      printed-counts 96 _ _ _ (omega (arith, p .1 .1)) (p .0) (p .1 .0),
     )
 
 returns-2 : tie.Need-returns-2
@@ -62,7 +62,7 @@ returns-2 c =
     let all = puts-more (replicate 96 0) _ _ 0 _ _ xs ys (p .0 ∙ sym (zero-add _), p .1 .0) (q .0, q .1 .0) (omega (arith, p .0, p .1 .1, length-replicate {A = ℕ} 96 0)) in
     let l = all .0 ∙ zero-add _ in (
       printed (xs ++ ys) _ _ _ (report-passed (r .before .before .args .image .now) o (r .run-image .ensures) (λ n i. another (rw i at (k .match .keys2)))) l (all .1),
-      counts (xs ++ ys) _ _ (omega (arith, p .1 .1, q .1 .1)) l (all .1),
+      printed-counts 96 (xs ++ ys) _ _ (omega (arith, p .1 .1, q .1 .1)) l (all .1),
     )
 
 pub report-spec : {M : Type 1} → statement M

@@ -1,8 +1,10 @@
 -- `report::lines::put_location` meets its contract.
 use native.Mathlib.Omega.{arith}
 use mathlib.Core.List.{[], _∷_, _++_}
-use Rattle.report.specs.Text.{text, labelled}
-use Rattle.report.proofs.Puts.{puts-more}
+use lib.ListN.{length-append}
+use Rattle.text.specs.Text.{text, labelled}
+use Rattle.text.proofs.Decimals.{labelled-most}
+use Rattle.text.proofs.Puts.{within-puts, puts-then}
 use borrow.Author.Needs.{needs}
 use Rattle.report.proofs.lines.put_location.Statement.{statement}
 use Rattle.report.proofs.lines.put_location.Tie as tie
@@ -35,13 +37,17 @@ returns c =
     let f = g .before .before .before .before .before in
     let s = f .before .before .before .before in
     let a = s .args in
+    let out = a .output .now in
     let first = labelled (text "at ") (a .segment) in
     let second = labelled (32 ∷ []) (a .word) in
-    let x = f .put-field .ensures in
-    let y = g .put-field2 .ensures in
-    let p = puts-more (a .output .now) _ _ (a .at) _ _ first second (x .0, x .1 .0) (y .0, y .1 .0) (omega (arith, s .pre, x .0, x .1 .1)) in
-    let q = puts-more (a .output .now) _ _ (a .at) _ _ (first ++ second) (10 ∷ []) p (t .put-text .ensures) (omega (arith, s .pre, p .0, y .1 .1, x .1 .1)) in
-    (q .0, (q .1, omega (arith, t .put-text .ensures .0, y .1 .1, x .1 .1)))
+    let j = labelled-most (text "at ") (a .segment) (omega (arith, s .fits .segment)) in
+    let k = labelled-most (32 ∷ []) (a .word) (omega (arith, s .fits .word)) in
+    let e = length-append first second in
+    let l = length-append (first ++ second) (10 ∷ []) in
+    let p = within-puts out _ (a .at) _ first (omega (arith, s .pre, j)) (f .put-field .ensures) in
+    let q = puts-then out _ _ (a .at) _ _ first second (omega (arith, s .pre, e, j, k)) p (g .put-field2 .ensures) in
+    let w = puts-then out _ _ (a .at) _ _ (first ++ second) (10 ∷ []) (omega (arith, s .pre, l, e, j, k)) q (t .put-text .ensures) in
+    (w .0, (w .1, omega (arith, w .0, l, e, j, k)))
 
 pub put-location-spec : {M : Type 1} → statement M
 put-location-spec =

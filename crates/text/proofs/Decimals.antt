@@ -8,7 +8,7 @@ use borrow.Author.Tests.{lt-ltb, le-ltb, ltb-true, ltb-false}
 use lib.Dec.{ltb}
 use lib.ListN.{length, length-append}
 use Rattle.words.specs.Answer.{if_then_else_}
-use Rattle.report.specs.Text.{digits, decimal}
+use Rattle.text.specs.Text.{digits, decimal, labelled, line}
 
 abbrev last : ℕ → List ℕ
 last n = (48 + n % 10) ∷ []
@@ -40,11 +40,11 @@ pub more-size : (n : ℕ) → 10 ≤ n → length (decimal n) ≡ length (decima
 more-size n h = ap length (decimal-more n h) ∙ length-append (decimal (n / 10)) (last n)
 
 -- the least number of more than k + 1 digits
-abbrev tens : ℕ → ℕ
+abbrev pub tens : ℕ → ℕ
 tens zero = 10
 tens (suc k) = 10 * tens k
 
-size-most : (k n : ℕ) → n < tens k → length (decimal n) ≤ k + 1
+pub size-most : (k n : ℕ) → n < tens k → length (decimal n) ≤ k + 1
 size-most zero n h = omega (arith, ap length (decimal-one n h))
 size-most (suc k) n h = by (ltb n 10) refl (λ m. size-most k (n / 10) m)
   where
@@ -55,3 +55,13 @@ size-most (suc k) n h = by (ltb n 10) refl (λ m. size-most k (n / 10) m)
 -- a word has at most ten digits
 pub decimal-most : (n : ℕ) → n < 4294967296 → length (decimal n) ≤ 10
 decimal-most n h = size-most 9 n (omega arith)
+
+-- with a label, and as a line
+pub labelled-most : (label : List ℕ) (n : ℕ) → n < 4294967296 → length (labelled label n) ≤ length label + 10
+labelled-most label n h = omega (arith, length-append label (decimal n), decimal-most n h)
+
+pub line-size : (label : List ℕ) (n : ℕ) → length (line (labelled label n)) ≡ length label + length (decimal n) + 1
+line-size label n = omega (arith, length-append (labelled label n) (10 ∷ []), length-append label (decimal n))
+
+pub line-most : (label : List ℕ) (n : ℕ) → n < 4294967296 → length (line (labelled label n)) ≤ length label + 11
+line-most label n h = omega (arith, line-size label n, decimal-most n h)

@@ -1,4 +1,4 @@
--- `report::text::put_text` meets its contract.
+-- `text::put_text` meets its contract.
 use Prim.Native.Nat.{_-_}
 use native.Mathlib.Omega.{arith}
 use mathlib.Core.Path.{refl, ap, _∙_}
@@ -7,8 +7,9 @@ use lib.ListN.{length}
 use lib.Seq.{take-all}
 use Rattle.image_format.specs.Output.{written}
 use Rattle.image_format.proofs.Copied.{Copied, copied-none, copied-next, copied-written}
-use Rattle.report.proofs.text.put_text.Statement.{statement}
-use Rattle.report.proofs.text.put_text.Tie as tie
+use Rattle.text.proofs.Puts.{puts-within, none-within, room-is, room-none}
+use Rattle.text.proofs.put_text.Statement.{statement}
+use Rattle.text.proofs.put_text.Tie as tie
 
 abbrev Inv-loop : tie.InvT-loop
 Inv-loop output₀ at text j₀ output j = Copied output₀ at text (length text) output j
@@ -22,7 +23,9 @@ put-text-spec =
     (tie.spec
     Inv-loop
     μ-loop
-    (λ c. copied-none (c .pre) (omega arith))  -- loop-holds
+    (λ c κs. search needs)  -- has-room-requires
+    (λ c. none-within _ _ _ (room-none _ _ _ (c .before .has-room .ensures) (c .if1 .taken)))  -- returns
+    (λ c. copied-none (room-is _ _ _ (c .before .has-room .ensures) (c .if1 .left)) (omega arith))  -- loop-holds
     (λ c. search needs)  -- shared-slice-read-output
     (λ c. search needs)  -- add-output
     (λ c. search needs)  -- slice-write-output
@@ -31,4 +34,4 @@ put-text-spec =
     (λ c. copied-next (c .before .before .loop .inv) (c .before .loop-test .taken) refl)  -- loop-again
     (λ c. search needs)  -- add-result
     (λ c. c .before .loop .inv .same)  -- same-length
-    (λ c. let a = c .before .before .args in (refl, copied-written (c .before .loop .inv) (c .loop-test .left) ∙ ap (written (a .output .now) (a .at)) (take-all (length (a .text .now)) (a .text .now) (omega arith)))))  -- returns
+    (λ c. let a = c .before .before .before .before .before .before .args in puts-within (a .output .now) _ (a .at) _ (a .text .now) (c .before .loop .inv .fits) (refl, copied-written (c .before .loop .inv) (c .loop-test .left) ∙ ap (written (a .output .now) (a .at)) (take-all (length (a .text .now)) (a .text .now) (omega arith)))))  -- returns-2

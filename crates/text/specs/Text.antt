@@ -16,7 +16,7 @@ unfoldable pub digits : ℕ → ℕ → List ℕ
 digits zero n = []
 digits (suc k) n = if ltb n 10 then (48 + n) ∷ [] else digits k (n / 10) ++ ((48 + n % 10) ∷ [])
 
--- a number in decimal; it has fewer digits than n + 1
+-- a number in decimal; it has at most n + 1 digits
 abbrev pub decimal : ℕ → List ℕ
 decimal n = digits (suc n) n
 
