@@ -9,8 +9,8 @@ use Rattle.state.specs.declared.record.Machine.{Machine}
 use Rattle.record_checks.specs.Judged.{judgedCheck}
 use Rattle.segments.specs.Segment.{segmentCheck, partStart, partSize}
 use Rattle.segments.proofs.Parts.{Given, starts, sized}
-use Rattle.host.specs.Opened.{opened, codeOf}
-use Rattle.host.specs.Looks.{accessOf, pointerTo, checkedOn, segmentOn, given}
+use Rattle.held_runs.specs.Opened.{opened, codeOf, given}
+use Rattle.host.specs.Looks.{accessOf, pointerTo, checkedOn, segmentOn}
 
 module _ (bytes : List ℕ) (write tag segment word : ℕ) where
   pub check-refused : (n : ℕ) → opened bytes ≡ refuse n → 0x10000 + n ≡ codeOf (checkedOn bytes write tag segment word)

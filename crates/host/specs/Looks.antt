@@ -4,14 +4,14 @@ use mathlib.Core.Bool.{not}
 use mathlib.Core.List.{List}
 use lib.Dec.{eqb}
 use lib.ListN.{getD}
-use Rattle.words.specs.Answer.{Answer, refuse, ok, _>>=_, _>>_, if_then_else_}
+use Rattle.words.specs.Answer.{Answer, ok, _>>=_, _>>_, if_then_else_}
 use Rattle.words.specs.declared.pointer.Pointer.{Pointer}
 use Rattle.state.specs.Bases.{baseOf}
 use Rattle.references.specs.declared.flag.Access.{Access}
 use Rattle.references.specs.declared.flag.Access.the-variants as access
 use Rattle.record_checks.specs.Judged.{judgedCheck}
 use Rattle.segments.specs.Segment.{segmentCheck}
-use Rattle.host.specs.Opened.{opened}
+use Rattle.held_runs.specs.Opened.{opened}
 
 -- 0 asks to read, another number to write
 abbrev pub accessOf : ℕ → Access
@@ -29,8 +29,3 @@ checkedOn bytes write tag segment word = opened bytes >>= (λ m. judgedCheck m (
 unfoldable pub segmentOn : List ℕ → ℕ → ℕ → Answer (ℕ × ℕ)
 segmentOn bytes size segment =
     opened bytes >>= (λ m. segmentCheck m size segment >> ok (baseOf (m .layout .lengths) segment, getD (m .layout .lengths) segment 0))
-
--- what a place for a part of it holds after the call; a refused call leaves it
-abbrev pub given : {A : Type 0} → (A → ℕ) → ℕ → Answer A → ℕ
-given part before (refuse n) = before
-given part before (ok x) = part x

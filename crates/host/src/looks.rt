@@ -2,8 +2,8 @@
 ghost use mathlib.Core.Path.{_≡_};
 ghost use lib.ListN.{length};
 ghost use Rattle.words.specs.Answer.{numberOf};
-ghost use Rattle.host.specs.Opened.{codeOf};
-ghost use Rattle.host.specs.Looks.{accessOf, checkedOn, segmentOn, given};
+ghost use Rattle.held_runs.specs.Opened.{codeOf, given};
+ghost use Rattle.host.specs.Looks.{accessOf, checkedOn, segmentOn};
 use record_checks::reference::check_reference;
 use references::flag::Access;
 use references::reference::IndexAnswer;

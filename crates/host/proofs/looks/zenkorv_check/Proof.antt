@@ -5,9 +5,9 @@ use borrow.Author.Needs.{needs}
 use Rattle.words.specs.Answer.{ok}
 use Rattle.references.specs.Reference.{indexAnswer}
 use Rattle.record_checks.proofs.Judged.{judged-lt}
-use Rattle.host.specs.Opened.{codeOf}
+use Rattle.held_runs.specs.Opened.{codeOf}
 use Rattle.host.specs.Looks.{checkedOn}
-use Rattle.host.proofs.OpenLaws.{opened-refused, opened-ok}
+use Rattle.held_runs.proofs.OpenLaws.{opened-refused, opened-ok}
 use Rattle.host.proofs.LookLaws.{check-refused, check-made}
 use Rattle.host.proofs.looks.zenkorv_check.Statement.{statement}
 use Rattle.host.proofs.looks.zenkorv_check.Tie as tie

@@ -6,8 +6,8 @@ use borrow.Author.Needs.{needs}
 use lib.ListN.{length}
 use Rattle.words.specs.Answer.{ok}
 use Rattle.segments.proofs.Parts.{Given, given}
-use Rattle.host.specs.Opened.{opened}
-use Rattle.host.proofs.OpenLaws.{opened-refused, opened-ok}
+use Rattle.held_runs.specs.Opened.{opened}
+use Rattle.held_runs.proofs.OpenLaws.{opened-refused, opened-ok}
 use Rattle.host.proofs.LookLaws.{place-refused, place-judged, place-made, bounds}
 use Rattle.host.proofs.looks.zenkorv_segment.Statement.{statement}
 use Rattle.host.proofs.looks.zenkorv_segment.Tie as tie

@@ -1,0 +1,4 @@
+pub mod Opened
+pub mod Runs
+pub mod Private
+pub mod Statements
