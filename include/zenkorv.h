@@ -10,9 +10,9 @@ extern "C" {
 #endif
 
 #define ZENKORV_VERSION_MAJOR 1
-#define ZENKORV_VERSION_MINOR 0
+#define ZENKORV_VERSION_MINOR 1
 #define ZENKORV_VERSION_PATCH 0
-#define ZENKORV_VERSION "1.0.0"
+#define ZENKORV_VERSION "1.1.0"
 
 /* A machine is a record of so many bytes and a memory of so many words. The firmware keeps them and lends them to calls. */
 #define ZENKORV_RECORD_BYTES 919
@@ -31,7 +31,7 @@ enum zenkorv_number {
     ZENKORV_TOO_MANY_WORDS = 5,   /* words pass 8,192 */
     ZENKORV_BYTES_LEFT = 6,       /* bytes after kind 4 */
     ZENKORV_MEMORY_TOO_SHORT = 7, /* fewer than 8,192 words lent */
-    ZENKORV_OUTPUT_TOO_SHORT = 8, /* output or record too short */
+    ZENKORV_OUTPUT_TOO_SHORT = 8, /* output, log or record too short */
     ZENKORV_NOT_SOUND = 9,        /* the bytes are those of no sound record */
     ZENKORV_NO_WORD = 21,         /* no such segment or word */
     ZENKORV_FLAG_MISSING = 22,    /* flag missing */
@@ -61,7 +61,8 @@ enum zenkorv_ending {
  *
  * - A slice is a pointer and a length, in elements. Each pointer is valid for its length and aligned for its type. It is
  *   not null, even where the length is 0: nothing tests for null.
- * - The slices of one call do not overlap. *first and *count of zenkorv_segment are distinct and outside of its slices.
+ * - The slices of one call do not overlap. *first and *count of zenkorv_segment are distinct and outside of its slices, so
+ *   are *calls and *returns of zenkorv_log.
  * - Nobody else writes what is lent while a call lasts, nor reads what the call may write.
  *
  * Any bytes may be lent as a record, and any words as a memory: each call judges them. Slices may be longer than asked
@@ -70,7 +71,8 @@ enum zenkorv_ending {
  * Threads and interrupts: no call keeps a pointer, uses a static or the heap. Calls on different machines may run at the
  * same time; a machine is in one call at a time. An interrupt may come during a call if its handler leaves the slices of
  * that call alone; the handler may make calls on another machine, if the stack has room for both. Nothing stops a run from
- * outside: choose the limit by the time that the firmware can wait. Between two calls it may write the words as it likes.
+ * outside: choose the limit by the time that the firmware can wait; zenkorv_log has a limit of its own, 1,000. Between two
+ * calls the firmware may write the words as it likes.
  */
 
 /* The bytes of stack that each call needs on x86-64, its return address included: the bound of tools/stack, rounded up
@@ -78,6 +80,7 @@ enum zenkorv_ending {
 #define ZENKORV_STACK_READ 3840
 #define ZENKORV_STACK_RUN 4992
 #define ZENKORV_STACK_STRETCH 4992
+#define ZENKORV_STACK_LOG 6016
 #define ZENKORV_STACK_STEP 4992
 #define ZENKORV_STACK_WRITE 2816
 #define ZENKORV_STACK_SEGMENT 2688
@@ -142,6 +145,42 @@ uint32_t zenkorv_run(uint8_t *record, size_t record_length, uint32_t *words, siz
 /* The same, and also stops right after the first completed crossing: a CALL through a gate, or a RET to the caller. */
 uint32_t zenkorv_stretch(uint8_t *record, size_t record_length, uint32_t *words, size_t word_count, uint16_t limit);
 
+/*
+ * Runs at most 1,000 instructions from where the record stands, and logs each completed crossing. The answer is that of
+ * zenkorv_run with limit 1,000. Called again, it goes on from there, with a log of its own.
+ *
+ * The log has a record of six bytes for each crossing, in order, from its byte 0 on; bytes past the last record stay.
+ * *calls and *returns are how many of each there are; frames in use before and *calls are as many as frames in use after
+ * and *returns. Refusals: 8 for the record, then 9, then 7, then 8 for a log shorter than 6,000 bytes; the log, *calls and
+ * *returns then stay.
+ */
+uint32_t zenkorv_log(uint8_t *record, size_t record_length, uint32_t *words, size_t word_count, uint8_t *log,
+                     size_t log_length, uint16_t *calls, uint16_t *returns);
+
+/* The most instructions that one call logs, and the shortest log that is accepted. */
+#define ZENKORV_LOG_LIMIT 1000
+#define ZENKORV_LOG_BYTES 6000
+
+/*
+ * The bytes of a crossing in the log.
+ *
+ *     at  bytes  what
+ *      0  1      0 for a call, 1 for a return
+ *      1  1      domain left
+ *      2  1      domain entered
+ *      3  1      segment entered
+ *      4  2      word entered, little-endian
+ */
+#define ZENKORV_CROSSING_BYTES 6
+#define ZENKORV_CROSSING_AT_KIND 0
+#define ZENKORV_CROSSING_AT_LEFT 1
+#define ZENKORV_CROSSING_AT_ENTERED 2
+#define ZENKORV_CROSSING_AT_SEGMENT 3
+#define ZENKORV_CROSSING_AT_WORD 4
+#define ZENKORV_CROSSING_CALL 0
+#define ZENKORV_CROSSING_RETURN 1
+
+/* What zenkorv_run, zenkorv_stretch and zenkorv_log return. */
 #define ZENKORV_RUN_ENDING(r) ((r) >> 24)
 #define ZENKORV_RUN_NUMBER(r) (((r) >> 16) & 0xFF)
 #define ZENKORV_RUN_COUNT(r) ((r) & 0xFFFF)
@@ -215,7 +254,7 @@ static inline const char *zenkorv_name(uint8_t number)
     case ZENKORV_TOO_MANY_WORDS: return "too many words";
     case ZENKORV_BYTES_LEFT: return "bytes left";
     case ZENKORV_MEMORY_TOO_SHORT: return "memory too short";
-    case ZENKORV_OUTPUT_TOO_SHORT: return "output or record too short";
+    case ZENKORV_OUTPUT_TOO_SHORT: return "output, log or record too short";
     case ZENKORV_NOT_SOUND: return "record not sound";
     case ZENKORV_NO_WORD: return "no such segment or word";
     case ZENKORV_FLAG_MISSING: return "flag missing";

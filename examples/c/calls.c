@@ -4,11 +4,6 @@
 /* The images of first_package.zk (a gate call that returns), loop.zk, trick_address.zk (fault 25 in a called domain). */
 static struct image package, loop, trick;
 
-static uint32_t answer(uint8_t ending, uint8_t number, uint16_t count)
-{
-    return (uint32_t)ending << 24 | (uint32_t)number << 16 | count;
-}
-
 /* Slices that are longer than asked for: what lies behind stays. */
 static void check_longer(void)
 {

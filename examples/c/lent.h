@@ -25,6 +25,14 @@ struct machine {
     size_t word_count;
 };
 
+/* A log and its totals, in memory of exactly the length that is lent. */
+struct crossings {
+    uint8_t *log;
+    size_t length;
+    uint16_t calls;
+    uint16_t returns;
+};
+
 static int failures = 0;
 
 static inline void expect(int holds, const char *name, const char *what)
@@ -94,6 +102,12 @@ static inline uint32_t stretch(struct machine m, uint16_t limit)
     return zenkorv_stretch(m.record, m.record_length, m.words, m.word_count, limit);
 }
 
+/* What a run, a stretch or a log returns. */
+static inline uint32_t answer(uint8_t ending, uint8_t number, uint16_t count)
+{
+    return (uint32_t)ending << 24 | (uint32_t)number << 16 | count;
+}
+
 static inline uint16_t step(struct machine m)
 {
     return zenkorv_step(m.record, m.record_length, m.words, m.word_count);
@@ -127,6 +141,22 @@ static inline int all_filled(const void *from, size_t bytes)
             return 0;
     }
     return 1;
+}
+
+static inline struct crossings lend_log(size_t length)
+{
+    struct crossings c = {filled(length), length, FILLED, FILLED};
+    return c;
+}
+
+static inline uint32_t run_logged(struct machine m, struct crossings *c)
+{
+    return zenkorv_log(m.record, m.record_length, m.words, m.word_count, c->log, c->length, &c->calls, &c->returns);
+}
+
+static inline int log_stays(const struct crossings *c)
+{
+    return all_filled(c->log, c->length) && c->calls == FILLED && c->returns == FILLED;
 }
 
 static inline struct machine loaded(const struct image *image)

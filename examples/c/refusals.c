@@ -18,6 +18,19 @@ static uint8_t refusal_of_stretch(struct machine m)
     return ZENKORV_RUN_ENDING(r) == ZENKORV_RUN_REFUSED && ZENKORV_RUN_COUNT(r) == 0 ? ZENKORV_RUN_NUMBER(r) : 0;
 }
 
+/* The same number with a log that is too short, for that comes last, as with one that is long enough. */
+static uint8_t refusal_of_log(struct machine m)
+{
+    struct crossings shorter = lend_log(ZENKORV_LOG_BYTES - 1);
+    struct crossings exact = lend_log(ZENKORV_LOG_BYTES);
+    uint32_t r = run_logged(m, &shorter);
+    int refused = run_logged(m, &exact) == r && ZENKORV_RUN_ENDING(r) == ZENKORV_RUN_REFUSED && ZENKORV_RUN_COUNT(r) == 0;
+    int stay = log_stays(&shorter) && log_stays(&exact);
+    free(shorter.log);
+    free(exact.log);
+    return refused && stay ? ZENKORV_RUN_NUMBER(r) : 0;
+}
+
 static uint8_t refusal_of_step(struct machine m)
 {
     uint16_t r = step(m);
@@ -55,9 +68,9 @@ struct call {
 };
 
 static const struct call calls[] = {
-    {"run", refusal_of_run, 1},         {"stretch", refusal_of_stretch, 1}, {"step", refusal_of_step, 1},
-    {"write", refusal_of_write, 1},     {"segment", refusal_of_segment, 1}, {"check", refusal_of_check, 0},
-    {"restart", restart, 0},
+    {"run", refusal_of_run, 1},     {"stretch", refusal_of_stretch, 1}, {"log", refusal_of_log, 1},
+    {"step", refusal_of_step, 1},   {"write", refusal_of_write, 1},     {"segment", refusal_of_segment, 1},
+    {"check", refusal_of_check, 0}, {"restart", restart, 0},
 };
 
 /* Each call is refused with the number, and leaves the machine. Of the calls without words, only if they are asked too. */
@@ -128,6 +141,21 @@ static void check_refusals(void)
     give_back(m);
 }
 
+/* A log that is too short is refused last, and the machine stays. */
+static void check_short_log(const char *name, size_t length)
+{
+    struct machine m = loaded(&package);
+    struct machine before = copy_of(m);
+    struct crossings c = lend_log(length);
+    uint32_t r = run_logged(m, &c);
+    expect(ZENKORV_RUN_ENDING(r) == ZENKORV_RUN_REFUSED && ZENKORV_RUN_COUNT(r) == 0, name, "not told as refused");
+    expect(ZENKORV_RUN_NUMBER(r) == ZENKORV_OUTPUT_TOO_SHORT, name, "another number");
+    expect(log_stays(&c) && same(m, before), name, "something has changed");
+    free(c.log);
+    give_back(before);
+    give_back(m);
+}
+
 /* A read that is refused leaves record and words, whatever they hold. */
 static void check_unread(const char *name, size_t record_length, size_t word_count, struct image image, uint8_t number)
 {
@@ -195,6 +223,9 @@ int main(int argc, char **argv)
     trick.length = image_file(argv[2], trick.bytes);
     check_refusals();
     check_unsound_frame();
+    check_short_log("a log of 5,999 bytes", ZENKORV_LOG_BYTES - 1);
+    check_short_log("a log of one crossing", ZENKORV_CROSSING_BYTES);
+    check_short_log("no log", 0);
     check_unread_images();
     return told();
 }

@@ -18,7 +18,8 @@ static uint8_t record[ZENKORV_RECORD_BYTES];
 static uint32_t words[ZENKORV_MEMORY_WORDS];
 static uint8_t output[ZENKORV_LONGEST_IMAGE];
 static uint8_t result[4];
-static uint16_t first, count;
+static uint8_t crossings[ZENKORV_LOG_BYTES];
+static uint16_t first, count, called, back;
 static volatile uint32_t returned;
 
 static void call_nothing(void)
@@ -39,6 +40,11 @@ static void call_run(void)
 static void call_stretch(void)
 {
     returned = zenkorv_stretch(record, sizeof record, words, ZENKORV_MEMORY_WORDS, LIMIT);
+}
+
+static void call_log(void)
+{
+    returned = zenkorv_log(record, sizeof record, words, ZENKORV_MEMORY_WORDS, crossings, sizeof crossings, &called, &back);
 }
 
 static void call_step(void)
@@ -81,12 +87,13 @@ struct call {
     size_t used;
 };
 
-enum { READ, RUN, STRETCH, STEP, WRITE, SEGMENT, CHECK, RESTART, ENTRY, CALLS };
+enum { READ, RUN, STRETCH, LOG, STEP, WRITE, SEGMENT, CHECK, RESTART, ENTRY, CALLS };
 
 static struct call calls[CALLS] = {
     [READ] = {"READ", call_read, ZENKORV_STACK_READ, 0},
     [RUN] = {"RUN", call_run, ZENKORV_STACK_RUN, 0},
     [STRETCH] = {"STRETCH", call_stretch, ZENKORV_STACK_STRETCH, 0},
+    [LOG] = {"LOG", call_log, ZENKORV_STACK_LOG, 0},
     [STEP] = {"STEP", call_step, ZENKORV_STACK_STEP, 0},
     [WRITE] = {"WRITE", call_write, ZENKORV_STACK_WRITE, 0},
     [SEGMENT] = {"SEGMENT", call_segment, ZENKORV_STACK_SEGMENT, 0},
@@ -153,6 +160,8 @@ static void measure_image(void)
     measure(RESTART);
     measure(READ);
     measure_stretches();
+    measure(READ);
+    measure(LOG);
     measure(READ);
     measure_steps();
 }

@@ -16,7 +16,8 @@ struct machine {
     uint32_t words[ZENKORV_MEMORY_WORDS];
 };
 
-static struct machine strap, second;
+/* The strap, a copy of it with the beats just handed over, and one for the image that was saved. */
+static struct machine strap, handed_over, second;
 
 /* For what cannot happen with a machine that nobody else writes. */
 static void expect(const char *what, uint8_t number)
@@ -87,6 +88,7 @@ static void hand_over(struct machine *m, const uint32_t *beats)
     uint32_t *data = data_of(m);
     memcpy(&data[FIRST_BEAT], beats, BEATS * sizeof *beats);
     data[FRESH] = 1;
+    handed_over = *m;
 }
 
 /* Puts the machine back to its start. The words stay, but for the one that says that beats are waiting. */
@@ -112,6 +114,36 @@ static void report_stop(const struct machine *m, uint32_t answer)
         printf("fault %d, %s\n", number, zenkorv_name(number));
 }
 
+static void report_crossing(const uint8_t *crossing)
+{
+    const char *did = crossing[ZENKORV_CROSSING_AT_KIND] == ZENKORV_CROSSING_CALL ? "called" : "returned to";
+    int word = crossing[ZENKORV_CROSSING_AT_WORD] + 256 * crossing[ZENKORV_CROSSING_AT_WORD + 1];
+    printf("    domain %d %s domain %d at %d|%d\n", crossing[ZENKORV_CROSSING_AT_LEFT], did,
+           crossing[ZENKORV_CROSSING_AT_ENTERED], crossing[ZENKORV_CROSSING_AT_SEGMENT], word);
+}
+
+/* Runs a copy for up to 1,000 instructions and reports their crossings. */
+static uint32_t log_some(struct machine *copy)
+{
+    static uint8_t log[ZENKORV_LOG_BYTES];
+    uint16_t calls = 0;
+    uint16_t returns = 0;
+    uint32_t answer = zenkorv_log(copy->record, sizeof copy->record, copy->words, ZENKORV_MEMORY_WORDS, log, sizeof log,
+                                  &calls, &returns);
+    if (ZENKORV_RUN_ENDING(answer) == ZENKORV_RUN_REFUSED)
+        expect("log", ZENKORV_RUN_NUMBER(answer));
+    for (int i = 0; i < calls + returns; i++)
+        report_crossing(&log[i * ZENKORV_CROSSING_BYTES]);
+    return answer;
+}
+
+/* Runs a copy of a machine that stopped again, with a log: who called whom on the way to where it stopped. */
+static void report_crossings(struct machine *copy)
+{
+    while (ZENKORV_RUN_ENDING(log_some(copy)) == ZENKORV_SPENT)
+        continue;
+}
+
 static void report_results(struct machine *m, int slices)
 {
     const uint32_t *data = data_of(m);
@@ -127,6 +159,7 @@ static void run_slices(struct machine *m)
         uint32_t answer = zenkorv_run(m->record, sizeof m->record, m->words, ZENKORV_MEMORY_WORDS, SLICE);
         if (ZENKORV_RUN_ENDING(answer) != ZENKORV_SPENT) {
             report_stop(m, answer);
+            report_crossings(&handed_over);
             give_up(m);
             return;
         }

@@ -138,6 +138,27 @@ uint32_t stretch(uint16_t limit)
     return judge_run(STRETCH, "stretch", zenkorv_stretch(record.at, record.length, memory(), word_count(), limit), due, limit);
 }
 
+/* The log is the output. */
+uint32_t run_logged(void)
+{
+    uint16_t totals[4] = { 0xAAAA, 0xBBBB, 0xCCCC, 0xDDDD };
+    unsigned due = refusal();
+    bool too_short = due == 0 && output.length < LOG_BYTES;
+    uint32_t code = zenkorv_log(record.at, record.length, memory(), word_count(), output.at, output.length, &totals[1], &totals[2]);
+    must(totals[0] == 0xAAAA && totals[3] == 0xDDDD, "log", "what lies beside its totals must stay");
+    if (due != 0 || too_short)
+        must(totals[1] == 0xBBBB && totals[2] == 0xCCCC, "log", "refused, its totals must stay");
+    if (too_short) {
+        count_number(LOG, TOO_SHORT);
+        must(code == 0x4000000 + TOO_SHORT * 0x10000, "log", "a log that is too short must be refused");
+        all_stay("log");
+        return code;
+    }
+    if (due == 0)
+        judge_log(totals[1], totals[2], code & 0xFFFF);
+    return judge_run(LOG, "log", code, due, LOG_LIMIT);
+}
+
 static unsigned words_changed(void)
 {
     unsigned changed = 0;

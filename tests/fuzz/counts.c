@@ -7,7 +7,7 @@
 enum { ENDINGS = 40, ANSWERS = ENDINGS + REFUSED };
 
 static const char *const mode_names[MODES] = { "image", "record", "edited image", "edited record" };
-static const char *const call_names[CALLS] = { "read", "run", "stretch", "step", "write", "segment", "check", "restart", "entry" };
+static const char *const call_names[CALLS] = { "read", "run", "stretch", "log", "step", "write", "segment", "check", "restart", "entry" };
 static const char *const ending_names[] = { "halted", "faulted", "spent", "crossed" };
 
 static enum mode current;

@@ -13,13 +13,16 @@ enum { RECORD = ZENKORV_RECORD_BYTES, WORDS = ZENKORV_MEMORY_WORDS };
 /* Places in the record. */
 enum {
     LENGTHS = 0, GATES = 32, START = 64, GATE_DOMAINS = 68, STACKS = 84, RIGHTS = 92, SEGMENTS = 220, DOMAINS = 221,
-    REGISTERS = 222, LOCATION = 226, EXECUTING = 229, POINTERS = 230, DEPTH = 262, FRAMES = 263, FRAME = 82
+    REGISTERS = 222, LOCATION = 226, EXECUTING = 229, POINTERS = 230, DEPTH = 262, FRAMES = 263, FRAME = 82, CALLER = 81
 };
+
+/* The log, and places in one of its crossings. */
+enum { LOG_BYTES = ZENKORV_LOG_BYTES, LOG_LIMIT = ZENKORV_LOG_LIMIT, CROSSING = 6, KIND = 0, LEFT = 1, ENTERED = 2, PLACE = 3 };
 
 enum { MEMORY_TOO_SHORT = 7, TOO_SHORT = 8, NOT_SOUND = 9, NO_WORD = 21, FLAG_MISSING = 22, NO_MATCH = 24, SOURCE_FAILS = 25, LAST_FAULT = 32 };
 enum ending { HALTED, FAULTED, SPENT, CROSSED, REFUSED };
 enum mode { IMAGE, RECORD_BYTES, EDITED_IMAGE, EDITED_RECORD, MODES };
-enum call { READ, RUN, STRETCH, STEP, WRITE, SEGMENT, CHECK, RESTART, ENTRY, CALLS };
+enum call { READ, RUN, STRETCH, LOG, STEP, WRITE, SEGMENT, CHECK, RESTART, ENTRY, CALLS };
 
 /* lent.c: what a call is lent lies against a page that it can't touch; the whole room is held against a copy. */
 struct lent {
@@ -85,11 +88,15 @@ void count_number(enum call call, unsigned number);
 void count_ending(enum call call, enum ending ending, unsigned number);
 void count_state(unsigned depth, unsigned completed);
 
+/* crossings.c: what must hold of a log, which is the output */
+void judge_log(unsigned calls, unsigned returns, unsigned completed);
+
 /* calls.c: each call with what must hold of it alone */
 void must(bool holds, const char *call, const char *what);
 uint8_t read_image(void);
 uint32_t run(uint16_t limit);
 uint32_t stretch(uint16_t limit);
+uint32_t run_logged(void);
 uint16_t step(void);
 uint32_t write_image(void);
 uint8_t segment_part(uint8_t segment);
@@ -100,6 +107,7 @@ uint8_t entry(uint16_t limit);
 /* laws.c: what holds between calls */
 void run_is_steps(uint16_t limit);
 void stretch_is_run(uint16_t limit);
+void log_is_stretches(void);
 void write_reads_back(void);
 void read_writes_back(void);
 void entry_is_run(uint16_t limit);

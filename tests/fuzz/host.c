@@ -34,6 +34,12 @@ static void lend_output(const struct input *in)
     lend(&output, chosen_length(in->output_choice, least(needed, ZENKORV_LONGEST_IMAGE)));
 }
 
+/* An output about as long as the shortest log. */
+static void lend_log(const struct input *in)
+{
+    lend(&output, chosen_length(in->output_choice, LOG_BYTES));
+}
+
 /* One byte of the record, or of the words after it. */
 static void edit(const uint8_t *place, uint8_t value)
 {
@@ -44,9 +50,16 @@ static void edit(const uint8_t *place, uint8_t value)
         words.at[offset - record.length] = value;
 }
 
-static void one_slice(uint8_t call, uint8_t limit, uint8_t value)
+static void slice_log(const struct input *in)
 {
-    switch (call % 8) {
+    lend_log(in);
+    log_is_stretches();
+    lend_output(in);
+}
+
+static void one_slice(const struct input *in, uint8_t call, uint8_t limit, uint8_t value)
+{
+    switch (call % 9) {
     case 0: run(limit); break;
     case 1: stretch(limit); break;
     case 2: step(); break;
@@ -54,6 +67,7 @@ static void one_slice(uint8_t call, uint8_t limit, uint8_t value)
     case 4: stretch_is_run(limit); break;
     case 5: segment_part(value % 20); break;
     case 6: check(value & 1, value & 2, value >> 4, limit); break;
+    case 7: slice_log(in); break;
     default: write_image(); break;
     }
 }
@@ -63,7 +77,7 @@ static void slices(const struct input *in)
 {
     for (unsigned k = 0; k < SLICES; k++) {
         const uint8_t *slice = in->slices + SLICE * k;
-        one_slice(slice[0], slice[1], slice[2]);
+        one_slice(in, slice[0], slice[1], slice[2]);
         if (slice[3] % 4 == 1)
             edit(slice + 4, slice[2]);
         keep(&record);
@@ -87,6 +101,8 @@ static void every_call(const struct input *in)
     look(in);
     run_is_steps((uint16_t)(1 + in->limit % 8));
     stretch_is_run(in->limit);
+    lend_log(in);
+    log_is_stretches();
     lend_output(in);
     if (accepted) {
         slices(in);

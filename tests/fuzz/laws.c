@@ -72,6 +72,54 @@ void stretch_is_run(uint16_t limit)
         must(step() == (code >> 16 & 0xFF), "stretch", "a step after it must give its fault");
 }
 
+/* The crossing that a stretch has just made. */
+static void put_crossing(uint8_t *to, const uint8_t *from)
+{
+    to[KIND] = record.at[DEPTH] > from[DEPTH] ? ZENKORV_CROSSING_CALL : ZENKORV_CROSSING_RETURN;
+    to[LEFT] = from[EXECUTING];
+    to[ENTERED] = record.at[EXECUTING];
+    to[PLACE] = record.at[LOCATION + 2];
+    memcpy(to + PLACE + 1, record.at + LOCATION, 2);
+}
+
+/* Stretches of at most 1,000 instructions in all: their crossings and the length of these, and the code of the run that they are. */
+static uint32_t log_of_stretches(uint8_t *log, size_t *length)
+{
+    uint8_t from[RECORD];
+    uint32_t code = CROSSED << 24;
+    uint32_t count = 0;
+    *length = 0;
+    while (code >> 24 == CROSSED) {
+        memcpy(from, record.at, RECORD);
+        code = stretch((uint16_t)(LOG_LIMIT - count));
+        count += code & 0xFFFF;
+        if (code >> 24 == CROSSED) {
+            put_crossing(log + *length, from);
+            *length += CROSSING;
+        }
+    }
+    return (code & 0xFFFF0000) + count;
+}
+
+/* A log is a run of 1,000 instructions, and has the crossings of its stretches. All but the output is put back. */
+void log_is_stretches(void)
+{
+    static uint8_t log[LOG_BYTES];
+    size_t length;
+    save(&before);
+    uint32_t code = run_logged();
+    if (code >> 24 == REFUSED)
+        return;
+    save(&after);
+    restore(&before);
+    must(run(LOG_LIMIT) == code, "log", "its code must be that of a run");
+    must(same_as(&after), "log", "its record and words must be those of a run");
+    restore(&before);
+    must(log_of_stretches(log, &length) == code && same_as(&after), "log", "it must end as its stretches");
+    must(memcmp(output.at, log, length) == 0, "log", "its crossings must be those of its stretches");
+    restore(&before);
+}
+
 /* The image of a record reads back as the record's restart, and its words. */
 void write_reads_back(void)
 {

@@ -71,6 +71,58 @@ WRAPPED(uint32_t, stretch, uint8_t *record, size_t record_length, uint32_t *word
     return code;
 }
 
+static void swap(uint8_t *a, uint8_t *b)
+{
+    uint8_t kept = *a;
+    *a = *b;
+    *b = kept;
+}
+
+/* 20: the bytes of a word are swapped; 21: domain left and domain entered are. */
+static void swap_in_crossings(uint8_t *log, size_t length)
+{
+    for (size_t at = 0; at < length; at += 6) {
+        if (wrong(20))
+            swap(log + at + 4, log + at + 5);
+        if (wrong(21))
+            swap(log + at + 1, log + at + 2);
+    }
+}
+
+/* 22: the totals are swapped; 23: a byte past the last crossing is written. */
+static void spoil_log(uint8_t *log, size_t log_length, uint16_t *calls, uint16_t *returns)
+{
+    size_t length = 6 * ((size_t)*calls + *returns);
+    uint16_t kept = *calls;
+    swap_in_crossings(log, length);
+    if (wrong(22)) {
+        *calls = *returns;
+        *returns = kept;
+    }
+    if (wrong(23) && length < log_length)
+        log[length] ^= 1;
+}
+
+/* 24: refused, it gives a total; 25: a log that is too short is refused before all else; 26: or the machine is run on all the same. */
+WRAPPED(uint32_t, log, uint8_t *record, size_t record_length, uint32_t *words, size_t word_count, uint8_t *log, size_t log_length, uint16_t *calls,
+        uint16_t *returns)
+{
+    if (wrong(25) && log_length < 6000)
+        return 0x4080000;
+    uint8_t tag_taken = take_tag(record, record_length);
+    uint32_t code = __real_zenkorv_log(record, record_length, words, word_count, log, log_length, calls, returns);
+    if (code >> 24 != 4) {
+        spoil_log(log, log_length, calls, returns);
+        return code;
+    }
+    put_back(record, tag_taken);
+    if (wrong(24))
+        *returns = 0;
+    if (wrong(26) && code == 0x4080000)
+        __real_zenkorv_run(record, record_length, words, word_count, 1);
+    return code;
+}
+
 /* 8: a step that faults changes A; 9: one that halts moves on. */
 WRAPPED(uint16_t, step, uint8_t *record, size_t record_length, uint32_t *words, size_t word_count)
 {
