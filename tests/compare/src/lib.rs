@@ -8,6 +8,8 @@ pub mod images;
 pub mod isolation;
 #[cfg_attr(library_missing, path = "library_missing.rs")]
 pub mod library;
+pub mod logs;
+pub mod programs;
 mod references;
 pub mod runs;
 mod state;

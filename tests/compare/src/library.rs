@@ -1,4 +1,4 @@
-//! The proved library's nine calls, as `include/zenkorv.h` declares them; each
+//! The proved library's ten calls, as `include/zenkorv.h` declares them; each
 //! has a wrapper that is safe to call with any slices.
 
 extern "C" {
@@ -71,6 +71,17 @@ extern "C" {
         result: *mut u8,
         result_length: usize,
     ) -> u8;
+
+    fn zenkorv_log(
+        record: *mut u8,
+        record_length: usize,
+        words: *mut u32,
+        word_count: usize,
+        log: *mut u8,
+        log_length: usize,
+        calls: *mut u16,
+        returns: *mut u16,
+    ) -> u32;
 }
 
 // In each wrapper a pointer and its length are those of a slice, or of a
@@ -198,6 +209,31 @@ pub fn entry(image: &[u8], limit: u16, result: &mut [u8]) -> u8 {
             limit,
             result.as_mut_ptr(),
             result.len(),
+        )
+    }
+}
+
+/// Runs the machine of a record for at most 1,000 instructions, and puts a
+/// record for each crossing into the log, and how many calls and returns there
+/// were; gives what a run gives.
+pub fn log(
+    record: &mut [u8],
+    words: &mut [u32],
+    log: &mut [u8],
+    calls: &mut u16,
+    returns: &mut u16,
+) -> u32 {
+    // SAFETY: see above.
+    unsafe {
+        zenkorv_log(
+            record.as_mut_ptr(),
+            record.len(),
+            words.as_mut_ptr(),
+            words.len(),
+            log.as_mut_ptr(),
+            log.len(),
+            calls,
+            returns,
         )
     }
 }

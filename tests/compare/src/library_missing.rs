@@ -51,3 +51,8 @@ pub fn restart(_: &mut [u8]) -> u8 {
 pub fn entry(_: &[u8], _: u16, _: &mut [u8]) -> u8 {
     panic!("{MISSING}")
 }
+
+/// There is nothing to log with.
+pub fn log(_: &mut [u8], _: &mut [u32], _: &mut [u8], _: &mut u16, _: &mut u16) -> u32 {
+    panic!("{MISSING}")
+}

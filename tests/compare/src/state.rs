@@ -1,7 +1,7 @@
 //! A record as bytes with its words, and two of them.
 
 use crate::hex;
-use generator::lent::Lent;
+use generator::lent::{self, Lent};
 use generator::Rng;
 
 /// Most words that a difference shows.
@@ -47,6 +47,19 @@ impl From<Lent> for State {
         let record = bytes;
         State { record, words }
     }
+}
+
+/// A state of any kind: in the middle of a run, sound, garbage, too short.
+pub(crate) fn any_state(rng: &mut Rng) -> State {
+    let lent = match rng.below(10) {
+        0..=2 => lent::mid_run(rng),
+        3..=5 => lent::sound(rng),
+        6..=8 => lent::garbage(rng),
+        _ => return lent::short(rng).into(),
+    };
+    let mut state = State::from(lent);
+    state.append(rng);
+    state
 }
 
 /// The state that the library changes and the one that the reference changes.

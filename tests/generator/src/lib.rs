@@ -1,7 +1,9 @@
 //! Images and machine records that reach deep behaviour, from a seed.
 
+mod call_loop;
 mod call_tree;
 mod damage;
+mod far_gates;
 pub mod lent;
 mod mutate;
 mod random;
@@ -36,7 +38,9 @@ pub fn damaged_image(seed: u64, index: u64) -> Vec<u8> {
 /// An image that the reader accepts.
 pub fn program(rng: &mut Rng) -> ImageBuilder {
     let mut image = match rng.below(100) {
-        0..=61 => call_tree::build(rng),
+        0..=53 => call_tree::build(rng),
+        54..=57 => far_gates::build(rng),
+        58..=61 => call_loop::build(rng),
         62..=67 => templates::counting_loop(rng),
         68..=73 => templates::endless_calls(rng),
         74..=81 => templates::relay(rng),

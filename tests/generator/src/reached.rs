@@ -8,6 +8,9 @@ use std::fmt;
 /// Upper borders of the histogram of instructions per run.
 const BORDERS: [u32; 8] = [0, 4, 9, 19, 49, 99, 499, 65_535];
 
+/// Upper borders of the histogram of crossings per run.
+const CROSSINGS: [u32; 5] = [0, 1, 9, 99, 65_535];
+
 /// Counts over a batch.
 #[derive(Clone, Debug, Default)]
 pub struct Reached {
@@ -39,6 +42,12 @@ pub struct Reached {
     pub lengths: [u64; 8],
     /// Runs in which 20 or more instructions completed.
     pub twenty: u64,
+    /// Runs by completed crossings: none, 1, 2 to 9, 10 to 99, 100 or more.
+    pub crossings: [u64; 5],
+    /// Runs that faulted after a crossing.
+    pub faults_after_crossing: u64,
+    /// Runs that crossed and ended with frames in use.
+    pub left_in_frames: u64,
 }
 
 impl Reached {
@@ -76,10 +85,12 @@ impl Reached {
     ) -> Result<Run, Refusal> {
         let first_words = first_words(machine);
         let mut processor = Processor::new(machine, memory)?;
-        let (mut count, mut frames) = (0, 0);
+        let (mut count, mut frames, mut crossings) = (0, 0, 0);
         let mut ending = Ending::Spent;
         while count < limit && ending == Ending::Spent {
-            match self.observe_step(&mut processor, &first_words) {
+            let outcome = self.observe_step(&mut processor, &first_words);
+            crossings += u32::from(outcome.is_ok_and(Completed::is_crossing));
+            match outcome {
                 Err(fault) => ending = Ending::Faulted(fault),
                 Ok(Completed::Halted) => ending = Ending::Halted,
                 Ok(completed) if stop_at_crossing && completed.is_crossing() => {
@@ -91,7 +102,18 @@ impl Reached {
             frames = frames.max(processor.machine().frame_count);
         }
         self.count_ending(ending, count, frames);
+        self.count_crossings(crossings, ending, processor.machine());
         Ok(Run { ending, count })
+    }
+
+    /// Counts a run by its crossings, and how it ended after some.
+    fn count_crossings(&mut self, crossings: u32, ending: Ending, machine: &Machine) {
+        let bucket = CROSSINGS.iter().position(|&border| crossings <= border);
+        self.crossings[bucket.unwrap_or(4)] += 1;
+        if crossings > 0 {
+            self.faults_after_crossing += u64::from(ending.fault() != 0);
+            self.left_in_frames += u64::from(machine.frame_count > 0);
+        }
     }
 
     fn count_ending(&mut self, ending: Ending, count: u16, frames: u8) {
@@ -199,11 +221,18 @@ impl fmt::Display for Reached {
         writeln!(out, "passed-on arguments {}", self.passed_on)?;
         writeln!(out, "tagged indirect reads {}", self.tagged_indirect)?;
         writeln!(out, "matches failed by source {}", self.faults[4])?;
-        write!(out, "runs by instructions completed:")?;
-        for (border, count) in BORDERS.iter().zip(self.lengths) {
-            write!(out, " <={border}: {count}")?;
-        }
-        writeln!(out)?;
+        up_to(
+            out,
+            "runs by instructions completed",
+            &BORDERS,
+            &self.lengths,
+        )?;
+        up_to(out, "runs by crossings", &CROSSINGS, &self.crossings)?;
+        writeln!(
+            out,
+            "runs that crossed and then faulted {}, ended with frames in use {}",
+            self.faults_after_crossing, self.left_in_frames
+        )?;
         let runs: u64 = self.lengths.iter().sum();
         let share = 100.0 * self.twenty as f64 / runs.max(1) as f64;
         writeln!(out, "runs with 20 or more instructions {share:.1}%")
@@ -214,6 +243,15 @@ impl fmt::Display for Reached {
 fn name(opcode: usize) -> String {
     let known = OPCODES.get(opcode);
     known.map_or("others".to_string(), |o| format!("{o:?}").to_uppercase())
+}
+
+/// A line of counts, each under its upper border.
+fn up_to(out: &mut fmt::Formatter, title: &str, borders: &[u32], counts: &[u64]) -> fmt::Result {
+    write!(out, "{title}:")?;
+    for (border, count) in borders.iter().zip(counts) {
+        write!(out, " <={border}: {count}")?;
+    }
+    writeln!(out)
 }
 
 /// A line of counts, each under its number.

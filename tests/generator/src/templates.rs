@@ -65,7 +65,7 @@ pub fn endless_calls(rng: &mut Rng) -> ImageBuilder {
 
 /// Makes a chain of three domains: gates for the second and third, and the
 /// right to call the next one's gate.
-fn chain_image(rng: &mut Rng, parts: &[Subsystem], start: u32) -> ImageBuilder {
+pub fn chain_image(rng: &mut Rng, parts: &[Subsystem], start: u32) -> ImageBuilder {
     let mut image = image_of(rng, parts);
     image.gates(2, 1, 1).gates(4, 1, 2);
     image.rights(0, 2, G).rights(1, 4, G);
@@ -75,7 +75,7 @@ fn chain_image(rng: &mut Rng, parts: &[Subsystem], start: u32) -> ImageBuilder {
 
 /// Three subsystems; the second and third have one gate, at which their code
 /// continues.
-fn chain_parts() -> [Subsystem; 3] {
+pub fn chain_parts() -> [Subsystem; 3] {
     let mut parts = [0, 1, 2].map(|domain| Subsystem::new(domain, u32::from(domain > 0)));
     for part in &mut parts[1..] {
         let here = part.here();

@@ -32,6 +32,11 @@ fn a_batch_reaches_every_part() {
     assert!(reached.tagged_indirect >= 1000, "tagged indirect reads");
     assert!(reached.relayed_calls >= 50, "calls with a tagged a");
     assert!(2 * reached.twenty > reached.images, "twenty instructions");
+    for (bucket, count) in reached.crossings.iter().enumerate() {
+        assert!(*count >= 300, "crossings, bucket {bucket}: {count}");
+    }
+    assert!(reached.faults_after_crossing >= 1000, "crossed and faulted");
+    assert!(reached.left_in_frames >= 1000, "crossed, frames in use");
 }
 
 #[test]

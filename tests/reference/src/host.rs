@@ -1,14 +1,15 @@
-//! The nine calls of a host, on a machine that it keeps as bytes.
+//! The ten calls of a host, on a machine that it keeps as bytes.
 //!
 //! A call refuses bytes that hold no sound record: 8 for too few, then 9. A
 //! refused call leaves all as it was.
 
 use crate::bytes::{machine_from_bytes, put_record, unjudged, RECORD_BYTES};
 use crate::checks::{check_reference, Flag};
+use crate::crossings::{logged, LOG_BYTES};
 use crate::image::{self, read_image, write_image};
 use crate::numbers::Refusal;
 use crate::record::Machine;
-use crate::run::{self, Run};
+use crate::run::{self, Processor, Run};
 use crate::words::Pointer;
 
 pub use crate::report::entry;
@@ -47,6 +48,28 @@ pub fn run(record: &mut [u8], words: &mut [u32], limit: u16) -> u32 {
 /// A run that also stops right after its first completed crossing.
 pub fn stretch(record: &mut [u8], words: &mut [u32], limit: u16) -> u32 {
     code_of(kept(record, |machine| run::stretch(machine, words, limit)))
+}
+
+/// A run of at most 1,000 instructions that puts a record for each completed
+/// crossing into the log, and the totals. Refusals: 8 for the record, 9, 7,
+/// then 8 for a log of fewer than 6,000 bytes.
+pub fn log(
+    record: &mut [u8],
+    words: &mut [u32],
+    log: &mut [u8],
+    calls: &mut u16,
+    returns: &mut u16,
+) -> u32 {
+    code_of(kept(record, |machine| {
+        let processor = Processor::new(machine, words)?;
+        if log.len() < LOG_BYTES {
+            return Err(Refusal::ShortOutput);
+        }
+        let (run, crossings) = logged(processor);
+        crossings.put(log);
+        (*calls, *returns) = crossings.totals();
+        Ok(run)
+    }))
 }
 
 /// Makes a call, which judges the machine, and keeps what it made of it.

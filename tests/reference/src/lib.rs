@@ -8,6 +8,7 @@
 pub mod bytes;
 pub mod calls;
 pub mod checks;
+pub mod crossings;
 pub mod host;
 pub mod image;
 pub mod instructions;
@@ -21,6 +22,7 @@ pub mod words;
 
 pub use bytes::{machine_from_bytes, record_bytes, RECORD_BYTES};
 pub use checks::{could_write, may_see};
+pub use crossings::{printed_log, LOG_BYTES};
 pub use image::{read_image, segment, segment_number, write_image};
 pub use instructions::Completed;
 pub use numbers::{Fault, Refusal};

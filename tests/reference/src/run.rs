@@ -127,7 +127,7 @@ pub struct Run {
 }
 
 impl Run {
-    fn new(ending: Ending, count: u16) -> Run {
+    pub(crate) fn new(ending: Ending, count: u16) -> Run {
         Run { ending, count }
     }
 }

@@ -1,5 +1,5 @@
 //! The examples: each text gives the stored image, and the image's run prints
-//! the stored lines.
+//! the stored lines and the stored log.
 
 mod common;
 
@@ -36,12 +36,15 @@ fn images_and_results_are_as_stored() {
     let texts = names("zk");
     assert_eq!(texts, names("img"), "an image for each text");
     assert_eq!(texts, names("out"), "a result for each text");
+    assert_eq!(texts, names("log"), "a log for each text");
     for name in &texts {
         let image = image(name);
         let stored = fs::read(path(&format!("{name}.img"))).expect("the image");
         assert!(image == stored, "{name}.img is not the image of its text");
-        let expected = fs::read_to_string(path(&format!("{name}.out"))).expect("the result");
-        assert_eq!(reference::report::printed(&image), expected, "{name}");
+        let stored = |ending| fs::read_to_string(path(&format!("{name}.{ending}")));
+        let [result, log] = ["out", "log"].map(|ending| stored(ending).expect("a file"));
+        assert_eq!(reference::report::printed(&image), result, "{name}");
+        assert_eq!(reference::printed_log(&image), log, "{name}");
     }
 }
 
@@ -57,6 +60,7 @@ fn results_are_as_explained() {
         ("trick_address", "fault 25", 3, 1, "2 1", 20),
         ("passed_on", "halted", 13, 0, "0 2", 20),
         ("passed_on_for_more", "fault 24", 6, 1, "2 4", 0),
+        ("nested_calls", "halted", 21, 0, "0 6", 40),
     ] {
         let lines = format!("end {end}\ncount {count}\ndomain {domain}\nat {at}\na {a}\n");
         assert_eq!(reference::report::printed(&image(name)), lines, "{name}");
@@ -95,6 +99,22 @@ fn words_changed_by_a_run() {
     assert_eq!(changed("passed_on_for_more"), (stored.clone(), 1));
     let stored = [stored, vec![(5, 0, 20)]].concat();
     assert_eq!(changed("passed_on"), (stored, 0));
+    let stored = vec![(1, 3, 42), (1, 4, 2), (3, 1, 0x8000_1005), (3, 2, 2)];
+    assert_eq!(changed("nested_calls"), (stored, 0));
+}
+
+/// The log that the comment of an example explains: what stands before the
+/// explanations.
+#[test]
+fn the_log_is_as_explained() {
+    let text = fs::read_to_string(path("nested_calls.zk")).expect("the text");
+    let log = fs::read_to_string(path("nested_calls.log")).expect("the log");
+    let mut explained = text.lines().filter_map(|line| line.strip_prefix("#   "));
+    for line in log.lines() {
+        let explained = explained.next().expect("a line for each");
+        assert!(explained.starts_with(&format!("{line} ")), "{line}");
+    }
+    assert_eq!(explained.next(), None);
 }
 
 #[test]

@@ -5,13 +5,14 @@
 //! sixth capability of the live frame; the other has eight, among them a call
 //! through a gate with two arguments and a return across domains. Both keep
 //! the record as bytes. Each loop is timed in long runs, in slices of 100
-//! instructions, and in runs of no instruction, which decode and encode the
-//! record alone. An argument asks for the long runs of one loop (plain or
-//! calls), or for `slices`, with the long runs of both.
+//! instructions, in runs of no instruction, which decode and encode the record
+//! alone, and in runs of 1,000 instructions with a log. An argument asks for
+//! the long runs of one loop (plain or calls), or for `slices`, with all tables
+//! of both.
 
 use assembler::*;
 use compare::{cpu_time, library, State};
-use reference::{host, MEMORY_WORDS, RECORD_BYTES};
+use reference::{host, LOG_BYTES, MEMORY_WORDS, RECORD_BYTES};
 use std::hint::black_box;
 
 /// Rounds, of which the best counts.
@@ -22,6 +23,9 @@ const LIMIT: u16 = 65_535;
 /// Slices in a round, and instructions in each.
 const SLICES: usize = 20_000;
 const SLICE: u16 = 100;
+/// Logs in a round, and the instructions that each has.
+const LOGS: usize = 2_000;
+const LOG_LIMIT: u16 = 1_000;
 /// Long runs beside them, which take about as long.
 const LONG: usize = 30;
 
@@ -127,14 +131,23 @@ fn time(runs: Runs, state: &mut State, calls: usize, limit: u16) -> f64 {
     (cpu_time() - begun).as_nanos() as f64 / calls as f64
 }
 
+/// The runs of both.
+const RUNS: [Runs; 2] = [library::run, host::run];
+
+/// Logged runs of both, as runs that have one limit.
+const LOGGED: [Runs; 2] = [
+    |record, words, _| library::log(record, words, &mut [0; LOG_BYTES], &mut 0, &mut 0),
+    |record, words, _| host::log(record, words, &mut [0; LOG_BYTES], &mut 0, &mut 0),
+];
+
 /// Calls of one limit by both, in turns: the best nanoseconds of a call by the
 /// library and by the reference.
-fn both(image: &[u8], calls: usize, limit: u16) -> [f64; 2] {
+fn both(runs: [Runs; 2], image: &[u8], calls: usize, limit: u16) -> [f64; 2] {
     let mut best = [f64::MAX; 2];
     for _ in 0..ROUNDS {
         let [mut one, mut two] = [(); 2].map(|()| started(image));
-        let library = time(library::run, &mut one, calls, limit);
-        let reference = time(host::run, &mut two, calls, limit);
+        let library = time(runs[0], &mut one, calls, limit);
+        let reference = time(runs[1], &mut two, calls, limit);
         assert!(one == two, "the final states differ");
         best = [best[0].min(library), best[1].min(reference)];
     }
@@ -149,7 +162,7 @@ fn row(name: &str, [library, reference]: [f64; 2]) -> String {
 
 /// Long runs: nanoseconds an instruction.
 fn long_run(name: &str, image: &[u8]) {
-    let times = both(image, CALLS, LIMIT).map(|call| call / f64::from(LIMIT));
+    let times = both(RUNS, image, CALLS, LIMIT).map(|call| call / f64::from(LIMIT));
     println!("{}", row(name, times));
 }
 
@@ -169,14 +182,19 @@ fn over_long_run(runs: Runs, image: &[u8]) -> f64 {
 /// Runs in slices: nanoseconds a slice, and how many times that is what its
 /// instructions take in a long run of the same side.
 fn slices(name: &str, image: &[u8]) {
-    let times = both(image, SLICES, SLICE);
-    let [one, two] = [library::run as Runs, host::run].map(|runs| over_long_run(runs, image));
+    let times = both(RUNS, image, SLICES, SLICE);
+    let [one, two] = RUNS.map(|runs| over_long_run(runs, image));
     println!("{} {one:9.2} {two:10.2}", row(name, times));
 }
 
 /// Runs of no instruction, which decode and encode the record alone.
 fn no_instruction(name: &str, image: &[u8]) {
-    println!("{}", row(name, both(image, SLICES, 0)));
+    println!("{}", row(name, both(RUNS, image, SLICES, 0)));
+}
+
+/// Runs of 1,000 instructions with a log: nanoseconds a run.
+fn logs(name: &str, image: &[u8]) {
+    println!("{}", row(name, both(LOGGED, image, LOGS, LOG_LIMIT)));
 }
 
 fn main() {
@@ -202,7 +220,7 @@ fn main() {
     }
 }
 
-/// The tables of slices and of runs of no instruction.
+/// The tables of slices, of runs of no instruction and of logs.
 fn print_slices(loops: &[&(&str, Vec<u8>)]) {
     println!("a slice of {SLICE} instructions, {SLICES} slices a round");
     println!("         library  reference   ratio   over the long run: both");
@@ -213,5 +231,10 @@ fn print_slices(loops: &[&(&str, Vec<u8>)]) {
     println!("         library  reference   ratio");
     for (name, image) in loops {
         no_instruction(name, image);
+    }
+    println!("a run of {LOG_LIMIT} instructions with its log, {LOGS} a round");
+    println!("         library  reference   ratio");
+    for (name, image) in loops {
+        logs(name, image);
     }
 }

@@ -9,8 +9,6 @@ mod tally;
 pub use tally::{Call, Tally};
 
 use crate::library;
-use crate::state::State;
-use generator::{lent, Rng};
 
 /// Calls that were compared so far.
 pub struct Comparison {
@@ -25,19 +23,6 @@ impl Comparison {
         let tally = Tally::default();
         Ok(Comparison { tally, seed })
     }
-}
-
-/// A state of any kind: in the middle of a run, sound, garbage, too short.
-fn any_state(rng: &mut Rng) -> State {
-    let lent = match rng.below(10) {
-        0..=2 => lent::mid_run(rng),
-        3..=5 => lent::sound(rng),
-        6..=8 => lent::garbage(rng),
-        _ => return lent::short(rng).into(),
-    };
-    let mut state = State::from(lent);
-    state.append(rng);
-    state
 }
 
 /// Compares all. Calls `progress` after each part.

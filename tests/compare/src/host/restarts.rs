@@ -1,8 +1,8 @@
 //! Restarts of records of all kinds, and of machines in the middle of a run.
 
-use super::{any_state, Call, Comparison};
+use super::{Call, Comparison};
 use crate::runs::Call as Executing;
-use crate::state::{Pair, State};
+use crate::state::{any_state, Pair, State};
 use crate::{hex, library};
 use generator::{program, Rng};
 use reference::{host, MEMORY_WORDS, RECORD_BYTES};

@@ -1,7 +1,7 @@
 //! Where each segment of a record lies.
 
-use super::{any_state, Call, Comparison};
-use crate::state::State;
+use super::{Call, Comparison};
+use crate::state::{any_state, State};
 use crate::{hex, library};
 use generator::Rng;
 use reference::{host, MEMORY_WORDS};

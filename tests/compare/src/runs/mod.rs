@@ -232,7 +232,7 @@ impl Comparison {
 }
 
 /// Bytes that an image is read over: zeros, 0xEE, or random ones.
-fn no_record(rng: &mut Rng) -> Vec<u8> {
+pub(crate) fn no_record(rng: &mut Rng) -> Vec<u8> {
     match rng.below(3) {
         0 => vec![0; RECORD_BYTES],
         1 => vec![0xEE; RECORD_BYTES],
@@ -278,7 +278,7 @@ fn existing_words(machine: &Machine) -> usize {
 }
 
 /// A difference with the image it was found on.
-fn described(name: &str, index: u64, bytes: &[u8], what: &str) -> String {
+pub(crate) fn described(name: &str, index: u64, bytes: &[u8], what: &str) -> String {
     format!("{name} {index}: {what}\nimage {}", hex(bytes))
 }
 
