@@ -1,14 +1,13 @@
 -- A logged run, stretch after stretch.
 use Prim.Native.Nat.{ℕ, _+_, _-_, _*_, _≤_}
 use native.Mathlib.Omega.{arith}
-use native.Mathlib.Nat.{add-zero, zero-add}
-use mathlib.Core.Bool.{Bool, true, false}
+use native.Mathlib.Nat.{zero-add}
+use mathlib.Core.Bool.{true, false}
 use mathlib.Core.List.{List, [], _∷_}
 use mathlib.Core.Path.{_≡_, refl, sym, ap, _∙_}
 use borrow.Author.Tests.{le-leb}
 use lib.Dec.{ltb}
 use lib.ListN.{length}
-use Rattle.words.specs.Answer.{if_then_else_}
 use Rattle.words.specs.Bit.{bit}
 use Rattle.state.specs.declared.record.Machine.{Machine}
 use Rattle.soundness.proofs.Facts.{sound-facts}

@@ -9,7 +9,6 @@ use lib.Dec.{leb}
 use lib.ListN.{getD}
 use Rattle.words.specs.Answer.{ok, if_then_else_}
 use Rattle.words.specs.declared.pointer.Pointer.{Pointer}
-use Rattle.state.specs.declared.record.Registers.{Registers}
 use Rattle.state.specs.declared.record.Machine.{Machine}
 use Rattle.state.specs.Record.{noPointer, inUse, ofSegment}
 use Rattle.references.specs.declared.flag.Access.the-variants as access

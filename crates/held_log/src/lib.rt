@@ -4,12 +4,10 @@ ghost use Rattle.runs.specs.Run.{endAnswer};
 ghost use Rattle.held_runs.specs.Opened.{given};
 ghost use Rattle.held_runs.specs.Runs.{endedWith, ranCode, ranBytes, ranWords};
 ghost use Rattle.held_log.specs.HeldLog.{loggedOn, runIn, totalAfter};
-use crossing_log::Logged;
 use crossing_log::run_logged;
 use held_runs::running::code;
 use held_runs::running::keep;
 use runs::outcome::End;
-use runs::outcome::Outcome;
 use snapshot_reader::form_number;
 use snapshot_reader::record_or_empty;
 

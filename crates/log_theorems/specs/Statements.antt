@@ -1,6 +1,5 @@
 -- What is proved of the crossings of a run and of their log; the proofs stand in proofs/.
 use Prim.Native.Nat.{ℕ, _+_, _*_, _≤_}
-use mathlib.Core.Bool.{false}
 use mathlib.Core.List.{List, _++_}
 use mathlib.Core.Path.{_≡_}
 use lib.ListN.{length, getD}

@@ -1,5 +1,5 @@
 -- `crossing_log::judge_log` meets its contract.
-use mathlib.Core.Path.{_≡_, refl}
+use mathlib.Core.Path.{refl}
 use borrow.Author.Needs.{needs}
 use borrow.Author.Tests.{eq-eqb, ne-eqb, lt-leb, le-leb}
 use Rattle.crossing_log.specs.Log.{logJudged}

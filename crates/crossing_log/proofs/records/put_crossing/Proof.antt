@@ -1,7 +1,7 @@
 -- `crossing_log::records::put_crossing` meets its contract.
 use Prim.Native.Nat.{_+_, _/_, _%_}
 use native.Mathlib.Omega.{arith}
-use mathlib.Core.Path.{_≡_, refl, _∙_}
+use mathlib.Core.Path.{refl, _∙_}
 use mathlib.Core.List.{[]}
 use lib.ListN.{length-set}
 use borrow.Author.Needs.{needs}

@@ -1,5 +1,5 @@
 -- `crossing_log::stretches::follow` meets its contract. The invariant: the logged run that the definition gives has come to the record that the locals hold, its words, the log and the totals.
-use Prim.Native.Nat.{ℕ, _+_, _-_, _*_, _<_, _≤_}
+use Prim.Native.Nat.{_+_, _-_, _*_, _<_, _≤_}
 use native.Mathlib.Omega.{arith}
 use mathlib.Core.List.{[], _∷_}
 use mathlib.Core.Logic.{⊎-elim}
