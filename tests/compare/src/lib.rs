@@ -1,6 +1,7 @@
 //! The proved library held against the reference implementation.
 
 mod answers;
+pub mod batch;
 mod checks;
 mod cpu_time;
 pub mod host;

@@ -2,40 +2,18 @@
 //! generated and COUNT damaged images against the reference, and prints what
 //! the texts reached.
 
-use compare::programs::{compare_programs, Tally};
+use compare::batch::{all_equal, arguments, ended, reached};
+use compare::programs::compare_programs;
 use std::process::ExitCode;
 
-/// From this COUNT on all must be reached.
-const LARGE: u64 = 1000;
-
-/// The number given as an argument.
-fn number(argument: Option<String>) -> Option<u64> {
-    argument?.parse().ok()
-}
-
-/// Prints what was reached; fails if a large batch missed something.
-fn report(tally: &Tally, count: u64) -> ExitCode {
-    print!("{tally}");
-    let missing = tally.missing();
-    if count >= LARGE && !missing.is_empty() {
-        println!("never reached: {}", missing.join(", "));
-        return ExitCode::FAILURE;
-    }
-    println!("{} compared, 0 differences", tally.total);
-    ExitCode::SUCCESS
-}
-
 fn main() -> ExitCode {
-    let mut arguments = std::env::args().skip(1);
-    let (Some(seed), Some(count)) = (number(arguments.next()), number(arguments.next())) else {
-        eprintln!("usage: compare_programs SEED COUNT");
-        return ExitCode::from(2);
+    let (seed, count) = match arguments("compare_programs SEED COUNT") {
+        Ok((seed, count, _)) => (seed, count),
+        Err(status) => return status,
     };
-    match compare_programs(seed, count) {
-        Ok(tally) => report(&tally, count),
-        Err(difference) => {
-            println!("{difference}");
-            ExitCode::FAILURE
-        }
-    }
+    let compared = compare_programs(seed, count).and_then(|tally| {
+        let missing = tally.missing();
+        reached(tally, &missing, count)
+    });
+    ended(compared, |tally| all_equal(tally.total))
 }
