@@ -86,6 +86,7 @@ module _ (m : Machine) (w : Whole m) where
       record {
         sound = record {
           layout = s .layout;
+          gates = s .gates;
           registers = record { domain = gate-domain (m .layout) (s .layout) (p .segment); segment = sp .segment; word = omega (arith, sp .word) };
           pointers = base-sound (withTag (m .pointers)) _ on (stack-most (m .layout) (s .layout) d);
           frames = frame-pushed domains (m .depth) (m .frames) (w .room) (s .frames) f less sf;
@@ -99,6 +100,7 @@ module _ (m : Machine) (w : Whole m) where
       record {
         sound = record {
           layout = s .layout;
+          gates = s .gates;
           registers = record { domain = sf .domain; segment = sp .segment; word = omega (arith, sp .word) };
           pointers = base-sound (set (m .pointers) 1 (f .s)) _ (pointer-set (m .pointers) 1 (f .s) (s .pointers) (sf .s)) (stack-most (m .layout) (s .layout) (f .domain));
           frames = frame-popped domains (m .depth) (m .frames) (w .room) (s .frames) freeFrame some free-frame;

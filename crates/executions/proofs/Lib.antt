@@ -17,3 +17,4 @@ pub mod PlanNumbers
 pub mod Numbers
 pub mod Made
 pub mod Called
+pub mod Gates

@@ -48,15 +48,16 @@ step-made m words d e =
     (says-bind (CrossesTo (Made m words crossing)) (MadeBy m words) (decide m (fetch m words) (readWord m words)) (commit m words)
     (decide-crosses m (Made m words crossing) (fetch m words) (readWord m words) (enter-made m words) (leave-made m words)) (commit-made m words)) e
 
--- a call through a gate has one frame more in use, and executes the gate's domain at the gate
+-- a call through a gate keeps the layout, has one frame more in use, and executes the gate's domain at the gate
 pub record Calling (m : Machine) (gate : Pointer) (n : Machine) : Type 0 where
+  pub layout : n .layout ≡ m .layout
   pub registers : n .registers ≡ atPlace (m .registers) gate (ofSegment (m .layout .gatedomains) (gate .segment))
   pub depth : n .depth ≡ m .depth + 1
 
 pub call-facts : (m n : Machine) (words : List ℕ) (gate : Pointer) → enterOf m (readWord m words) gate ≡ ok n → Calling m gate n
 unfolding enterOf entered
 call-facts m n words gate e =
-    said (Calling m gate) _ n (says-then (Calling m gate) (frameFor m (readWord m words)) (λ f. ok (entered m gate f)) (λ f. record { registers = refl; depth = refl })) e
+    said (Calling m gate) _ n (says-then (Calling m gate) (frameFor m (readWord m words)) (λ f. ok (entered m gate f)) (λ f. record { layout = refl; registers = refl; depth = refl })) e
 
 -- a return has one less, and executes the domain of the frame at the place
 pub record Returning (m : Machine) (back : Pointer) (n : Machine) : Type 0 where

@@ -55,34 +55,43 @@ jump-exists lengths rights d p e = by (p .tag) e
     by true e = absurd (omega arith)
     by false e = static-exists lengths rights d flag.Execute (p .segment) (p .word) e
 
--- a call that passes its checks in a row: the word exists (x), and through a gate a frame is free (d)
-abbrev Way : Bool → Bool → Bool → Type 0
-Way x d inside = (x ≡ true) × (inside ≡ false → d ≡ true)
+-- a call that passes its checks in a row: the word exists (x); one through a gate has no E (e), the word is one (w) and a frame is free (d)
+abbrev Way : Bool → Bool → Bool → Bool → Bool → Type 0
+Way x e w d inside = (x ≡ true) × (inside ≡ false → (e ≡ false) × ((w ≡ true) × (d ≡ true)))
 
-way : (t x e g w d : Bool) → Says (Way x d) (require t 28 >> require x 21 >> (if e then ok true else (require g 22 >> require w 29 >> require d 31 >> ok false)))
+way : (t x e g w d : Bool) → Says (Way x e w d) (require t 28 >> require x 21 >> (if e then ok true else (require g 22 >> require w 29 >> require d 31 >> ok false)))
 way false x e g w d = tt
 way true false e g w d = tt
 way true true true g w d = (refl, λ f. never (sym f))
 way true true false false w d = tt
 way true true false true false d = tt
 way true true false true true false = tt
-way true true false true true true = (refl, λ f. refl)
+way true true false true true true = (refl, λ f. (refl, (refl, refl)))
 
-abbrev WayOf : List ℕ → ℕ → Pointer → Bool → Type 0
-WayOf lengths depth p = Way (exists lengths (p .segment) (p .word)) (ltb depth 8)
+abbrev WayOf : List ℕ → List ℕ → List ℕ → ℕ → ℕ → Pointer → Bool → Type 0
+WayOf lengths gates rights d depth p =
+    Way (exists lengths (p .segment) (p .word)) (has (rightsOf rights d (p .segment)) flag.Execute) (ltb (p .word) (ofSegment gates (p .segment))) (ltb depth 8)
 
-call-way : (lengths gates rights : List ℕ) (d depth : ℕ) (p : Pointer) → Says (WayOf lengths depth p) (callWay lengths gates rights d depth p)
+call-way : (lengths gates rights : List ℕ) (d depth : ℕ) (p : Pointer) → Says (WayOf lengths gates rights d depth p) (callWay lengths gates rights d depth p)
 unfolding callWay
 call-way lengths gates rights d depth p =
     way (not (p .tag)) (exists lengths (p .segment) (p .word)) (has (rightsOf rights d (p .segment)) flag.Execute) (has (rightsOf rights d (p .segment)) flag.Gate)
     (ltb (p .word) (ofSegment gates (p .segment))) (ltb depth 8)
+
+-- a gate that exists, with a frame free for a call through it by a domain without E there
+pub record Gated (lengths gates rights : List ℕ) (domain depth : ℕ) (p : Pointer) : Type 0 where
+  pub sound : PointerSound p
+  pub exists-is : exists lengths (p .segment) (p .word) ≡ true
+  pub outside : has (rightsOf rights domain (p .segment)) flag.Execute ≡ false
+  pub gate : p .word < ofSegment gates (p .segment)
+  pub free : depth < 8
 
 module _ (lengths gates rights stacks : List ℕ) (depth : ℕ) (r : Registers) (pointers : List Pointer) where
   abbrev pub PlanSound : Plan → Type 0
   PlanSound halt = Unit {0}
   PlanSound (move a s w ps) = Placed s w ps
   PlanSound (store p v) = Placed (r .segment) (r .word + 1) pointers
-  PlanSound (enter p) = PointerSound p × (depth < 8)
+  PlanSound (enter p) = Gated lengths gates rights (r .domain) depth p
   PlanSound (leave p) = Unit {0}
 
   module _ (few : Few lengths) (stack : stackOf stacks (r .domain) ≤ 15) (ps : PointersSound pointers) (read : Reader) where
@@ -98,13 +107,17 @@ module _ (lengths gates rights stacks : List ℕ) (depth : ℕ) (r : Registers) 
     call-sound : (p : Pointer) → Says PlanSound (callOf lengths gates rights stacks depth r pointers p)
     unfolding callOf
     call-sound p =
-        says-bind (WayOf lengths depth p) PlanSound (callWay lengths gates rights (r .domain) depth p) _ (call-way lengths gates rights (r .domain) depth p)
-        (λ inside w. says-if PlanSound inside (ok (move (r .a) (p .segment) (p .word) (withBase pointers (stackOf stacks (r .domain))))) (ok (enter p)) (λ _. within (w .0)) (λ f. (exists-sound lengths p few (w .0), ltb-true depth 8 (w .1 f))))
+        says-bind (WayOf lengths gates rights (r .domain) depth p) PlanSound (callWay lengths gates rights (r .domain) depth p) _ (call-way lengths gates rights (r .domain) depth p)
+        (λ inside w. says-if PlanSound inside (ok (move (r .a) (p .segment) (p .word) (withBase pointers (stackOf stacks (r .domain))))) (ok (enter p)) (λ _. within (w .0)) (λ f. gated (w .0) (w .1 f)))
       where
         within : exists lengths (p .segment) (p .word) ≡ true → Placed (p .segment) (p .word) (withBase pointers (stackOf stacks (r .domain)))
         within e =
             let s = exists-sound lengths p few e in
             record { segment = s .segment; word = omega (arith, s .word); pointers = base-sound pointers _ ps stack }
+
+        gated : (x : exists lengths (p .segment) (p .word) ≡ true) → (has (rightsOf rights (r .domain) (p .segment)) flag.Execute ≡ false) × ((ltb (p .word) (ofSegment gates (p .segment)) ≡ true) × (ltb depth 8 ≡ true))
+            → Gated lengths gates rights (r .domain) depth p
+        gated x t = record { sound = exists-sound lengths p few x; exists-is = x; outside = t .0; gate = ltb-true _ _ (t .1 .0); free = ltb-true depth 8 (t .1 .1) }
 
     return-sound : (p : Pointer) → Says PlanSound (returnOf lengths gates rights stacks depth r pointers p)
     unfolding returnOf

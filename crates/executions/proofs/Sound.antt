@@ -3,7 +3,7 @@ use Prim.Native.Nat.{ℕ, _+_}
 use native.Mathlib.Omega.{arith}
 use mathlib.Core.List.{List}
 use mathlib.Core.Path.{_≡_}
-use Rattle.words.specs.Answer.{Answer, ok}
+use Rattle.words.specs.Answer.{ok}
 use Rattle.words.specs.declared.pointer.Pointer.{Pointer}
 use Rattle.state.specs.declared.record.Machine.{Machine}
 use Rattle.state.specs.Bases.{basesOf}
@@ -20,10 +20,9 @@ use Rattle.crossings.specs.Crossing.{enterOf, leaveOf}
 use Rattle.runs.specs.Step.{Act, stop, proceed, put, cross, Done, movedTo, resolve, decide, commit, execute}
 use Rattle.executions.proofs.Says.{Says, said, says-bind, says-then, says-accept}
 use Rattle.executions.proofs.Runs.{run-keeps}
-use Rattle.executions.proofs.Parts.{planned}
 use Rattle.executions.proofs.Plans.{Placed, PlanSound, plan-sound}
 use Rattle.executions.proofs.Crossings.{Whole, stack-most, enter-whole, leave-whole}
-use Rattle.executions.specs.Statements.{SoundRecord, StepSound, RunSound}
+use Rattle.executions.specs.Statements.{SoundRecord, StepSound, RunSound, plannedBy}
 
 module _ (m : Machine) (w : Whole m) where
   abbrev s : Sound m
@@ -58,6 +57,7 @@ module _ (m : Machine) (w : Whole m) where
       record {
         sound = record {
           layout = s .layout;
+          gates = s .gates;
           registers = record { domain = s .registers .domain; segment = p .segment; word = p .word };
           pointers = p .pointers;
           frames = s .frames;
@@ -71,23 +71,24 @@ module _ (m : Machine) (w : Whole m) where
   ActSound (put p v) = On
   ActSound (cross n) = Whole n
 
-  abbrev Planned : Plan → Type 0
+  abbrev pub Planned : Plan → Type 0
   Planned = PlanSound (m .layout .lengths) (m .layout .gates) (m .layout .rights) (m .layout .stacks) (m .depth) (m .registers) (m .pointers)
 
   resolve-sound : (read : Reader) (plan : Plan) → Planned plan → Says ActSound (resolve m read plan)
   resolve-sound read halt h = tt
   resolve-sound read (move a segment word ps) h = h
   resolve-sound read (store p v) h = h
-  resolve-sound read (enter p) h = says-bind Whole ActSound (enterOf m read p) (λ n. ok (cross n)) (enter-whole m w read p (h .0) (h .1)) (λ n x. x)
+  resolve-sound read (enter p) h = says-bind Whole ActSound (enterOf m read p) (λ n. ok (cross n)) (enter-whole m w read p (h .sound) (h .free)) (λ n x. x)
   resolve-sound read (leave p) h = says-bind Whole ActSound (leaveOf m p) (λ n. ok (cross n)) (leave-whole m w p) (λ n x. x)
 
-  decide-sound : (fetched : Answer ℕ) (read : Reader) → Says (λ x. On) fetched → Says ActSound (decide m fetched read)
+  pub planned-sound : (words : List ℕ) → Says Planned (plannedBy m words)
+  planned-sound words =
+      plan-sound (m .layout .lengths) (m .layout .gates) (m .layout .rights) (m .layout .stacks) (m .depth) (m .registers) (m .pointers)
+      (s .layout .lengths) (stack-most (m .layout) (s .layout) (m .registers .domain)) (s .pointers) (readWord m words) (fetch m words) (fetch-on words)
+
+  decide-sound : (words : List ℕ) → Says ActSound (decide m (fetch m words) (readWord m words))
   unfolding decide
-  decide-sound fetched read on =
-      says-bind Planned ActSound (planned m fetched read) (resolve m read)
-      (plan-sound (m .layout .lengths) (m .layout .gates) (m .layout .rights) (m .layout .stacks) (m .depth) (m .registers) (m .pointers)
-      (s .layout .lengths) (stack-most (m .layout) (s .layout) (m .registers .domain)) (s .pointers) read fetched on)
-      (resolve-sound read)
+  decide-sound words = says-bind Planned ActSound (plannedBy m words) (resolve m (readWord m words)) (planned-sound words) (resolve-sound (readWord m words))
 
   abbrev WholeDone : Done → Type 0
   WholeDone d = Whole (d .machine)
@@ -103,12 +104,12 @@ module _ (m : Machine) (w : Whole m) where
   unfolding execute
   step-whole words d e =
       said WholeDone _ d
-      (says-bind ActSound WholeDone (decide m (fetch m words) (readWord m words)) (commit m words) (decide-sound (fetch m words) (readWord m words) (fetch-on words)) (commit-sound words)) e
+      (says-bind ActSound WholeDone (decide m (fetch m words) (readWord m words)) (commit m words) (decide-sound words) (commit-sound words)) e
 
 good : (m : Machine) → Whole m → SoundRecord m
 good m w = (facts-sound m (w .sound), w .room)
 
-whole : (m : Machine) → SoundRecord m → Whole m
+pub whole : (m : Machine) → SoundRecord m → Whole m
 whole m g = record { sound = sound-facts m (g .0); room = g .1 }
 
 pub step-sound : StepSound

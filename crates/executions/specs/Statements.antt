@@ -8,13 +8,13 @@ use lib.ListN.{getD, length}
 use Rattle.words.specs.Answer.{Answer, refuse, ok}
 use Rattle.words.specs.declared.pointer.Pointer.{Pointer}
 use Rattle.state.specs.declared.record.Machine.{Machine}
-use Rattle.state.specs.Bases.{wordsIn}
+use Rattle.state.specs.Bases.{baseOf, wordsIn}
 use Rattle.soundness.specs.Sound.{soundTest}
 use Rattle.memory.specs.Reader.{readWord, fetch}
 use Rattle.instructions.specs.Plan.{Plan, enter, leave}
 use Rattle.instructions.specs.Instruction.{planOf}
 use Rattle.crossings.specs.Crossing.{enterOf, leaveOf}
-use Rattle.runs.specs.Step.{Completion, stopped, proceeded, crossing, Done, execute}
+use Rattle.runs.specs.Step.{Completion, stopped, proceeded, crossing, Done, done, execute}
 use Rattle.runs.specs.Run.{ran, spent, faulted, refused, runFrom, judged}
 use Rattle.processor.specs.Calls.{Step, stepCall, runCall, stretchCall}
 use Rattle.processor.specs.Steps.{afterStretch}
@@ -60,6 +60,16 @@ Made m words crossing n = CalledTo m words n ⊎ ReturnedTo m words n
 
 abbrev pub StepMade : Type 0
 StepMade = (m : Machine) (words : List ℕ) (d : Done) → execute m words ≡ ok d → Made m words (d .completion) (d .machine)
+
+-- a call through a gate in a sound machine enters another domain
+abbrev pub CallLeaves : Type 0
+CallLeaves = (m n : Machine) (words : List ℕ) → SoundRecord m → CalledTo m words n → n .registers .domain ≡ m .registers .domain → ⊥
+
+-- it leaves the words, and the next fetch gets the gate's word: no fault of that fetch follows a completed call
+abbrev pub CallFetches : Type 0
+CallFetches =
+    (m n : Machine) (words : List ℕ) → SoundRecord m → (c : CalledTo m words n)
+    → (execute m words ≡ ok (done n words crossing)) × (fetch n words ≡ ok (getD words (baseOf (m .layout .lengths) (c .gate .segment) + c .gate .word) 0))
 
 -- a run is its first stretch, and a run from where that crossed
 abbrev pub RunStretches : Type 0

@@ -1,12 +1,12 @@
 -- Images that are passed.
-use Prim.Native.Nat.{ℕ, zero, suc, _-_, _<_, _≤_}
+use Prim.Native.Nat.{ℕ, zero, suc, _+_, _-_, _<_, _≤_}
 use native.Mathlib.Omega.{arith}
 use mathlib.Core.Path.{_≡_, sym, ap, _∙_, subst}
-use mathlib.Core.Bool.{false, not}
+use mathlib.Core.Bool.{true, false, not}
 use mathlib.Core.List.{List, [], _∷_}
 use borrow.Author.Tests.{leb-true, ltb-true, eqb-true, not-true}
 use lib.Dec.{leb, ltb, eqb}
-use lib.ListN.{length, getD, take, drop}
+use lib.ListN.{length, getD, take, drop, length-drop}
 use Rattle.words.specs.Answer.{Answer, refuse, ok, _>>_, require}
 use Rattle.words.specs.PointerWord.{pointerOf}
 use Rattle.words.specs.declared.pointer.Pointer.{Pointer}
@@ -15,7 +15,7 @@ use Rattle.image_format.specs.Chunk.{Read, chunkAt, chunkOf, exactly}
 use Rattle.image_format.specs.Head.{located, headFields, headBody, headRead, headOf}
 use Rattle.image_format.specs.Segment.{Segment, segmentOf, segmentsOf}
 use Rattle.image_format.specs.Domain.{Domain, domainOf, domainsOf}
-use Rattle.image_format.specs.Image.{Image, endOf, imageOf}
+use Rattle.image_format.specs.Image.{Image, gatesPass, chunksOf, imageOf}
 use Rattle.image_format.specs.declared.Head.{Head}
 use Rattle.image_format.proofs.Answers.{no-value, passed, test, after, bound, the-value}
 use Rattle.image_format.proofs.Chunks.{chunk-facts, exact-size}
@@ -108,16 +108,24 @@ pub record ImageRead (bytes : List ℕ) (i : Image) : Type 0 where
   pub segments-is : segmentsOf (head .value .segments) (head .value .domains) 8192 (head .rest) ≡ ok segments
   pub domains : Read (List Domain)
   pub domains-is : domainsOf (head .value .domains) (head .value .segments) (segments .rest) ≡ ok domains
-  pub end-is : endOf (domains .rest) ≡ ok tt
+  pub end : Read (List ℕ)
+  pub end-is : chunkOf 4 (exactly 0) (domains .rest) ≡ ok end
+  pub none-left : length (end .rest) ≡ 0
+  pub gates-pass : gatesPass i ≡ true
   pub is : record { start = head .value .start; segments = segments .value; domains = domains .value } ≡ i
 
 pub image-facts : (bytes : List ℕ) {i : Image} → imageOf bytes ≡ ok i → ImageRead bytes i
-unfolding imageOf
+unfolding imageOf chunksOf
 image-facts bytes e =
-    let h = bound (headOf bytes) _ e in
+    let c = bound (chunksOf bytes) _ e in
+    let h = bound (headOf bytes) _ (c .is) in
     let s = bound (segmentsOf (h .value .value .segments) (h .value .value .domains) 8192 (h .value .rest)) _ (h .next) in
     let d = bound (domainsOf (h .value .value .domains) (h .value .value .segments) (s .value .rest)) _ (s .next) in
-    let t = after (endOf (d .value .rest)) _ (d .next) in
+    let k = bound (chunkOf 4 (exactly 0) (d .value .rest)) _ (d .next) in
+    let r = the-value (k .next) in
+    let t = after (require (gatesPass (c .value .value)) 10 >> require (eqb (length (c .value .rest)) 0) 6) _ (c .next) in
+    let p = passed (gatesPass (c .value .value)) 10 _ (t .0) in
+    let i = the-value (t .1) in
     record {
       head = h .value;
       head-is = h .is;
@@ -125,9 +133,26 @@ image-facts bytes e =
       segments-is = s .is;
       domains = d .value;
       domains-is = d .is;
-      end-is = t .0;
-      is = the-value (t .1);
+      end = k .value;
+      end-is = k .is;
+      none-left = ap (λ (x : Read Image). length (x .rest)) r ∙ eqb-true _ 0 (test _ 6 (p .1));
+      gates-pass = subst (λ (x : Image). gatesPass x ≡ true) i (p .0);
+      is = ap (λ (x : Read Image). x .value) r ∙ i;
     }
+
+-- kind 4 that is passed, with nothing after it
+pub record Ended (bytes : List ℕ) : Type 0 where
+  pub kind-is : pairOf (drop 2 bytes) ≡ 4
+  pub body-is : pairOf bytes ≡ 0
+  pub size : length bytes ≡ 4
+
+pub end-facts : (bytes : List ℕ) {c : Read (List ℕ)} → chunkOf 4 (exactly 0) bytes ≡ ok c → length (c .rest) ≡ 0 → Ended bytes
+end-facts bytes {c} e z =
+    let k = chunk-facts 4 (exactly 0) bytes e in
+    let n = exact-size 4 0 bytes k in
+    let q : drop 4 bytes ≡ c .rest = ap (λ (m : ℕ). drop (4 + m) bytes) (sym n) ∙ ap (λ (x : Read (List ℕ)). x .rest) (k .is) in
+    let r = k .room in
+    record { kind-is = k .kind-is; body-is = n; size = omega (arith, ap length q, length-drop 4 bytes) }
 
 pub record Segmented (n domains room : ℕ) (bytes : List ℕ) (r : Read (List Segment)) : Type 0 where
   pub first : Read Segment

@@ -1,5 +1,6 @@
--- Images: kind 1, kind 2 for each segment, kind 3 for each domain, kind 4, and nothing after it.
+-- Images: kind 1, kind 2 for each segment, kind 3 for each domain, kind 4, and nothing after it; no gate is dead.
 use Prim.Native.Nat.{ℕ, zero, suc, _+_, _-_, _*_}
+use mathlib.Core.Bool.{Bool}
 use mathlib.Core.List.{List, [], _∷_, _++_}
 use lib.Dec.{eqb}
 use lib.ListN.{length, getD, take, drop, replicate}
@@ -7,9 +8,10 @@ use Rattle.words.specs.Answer.{Answer, ok, _>>=_, _>>_, require}
 use Rattle.state.specs.declared.record.Start.{Start}
 use Rattle.state.specs.declared.record.Layout.{Layout}
 use Rattle.state.specs.Bases.{baseOf}
-use Rattle.words.specs.Numbers.{bytesLeft}
+use Rattle.words.specs.Numbers.{bytesLeft, deadGate}
+use Rattle.layout_soundness.specs.SoundLayout.{gatesTest}
 use Rattle.image_format.specs.Bytes.{joined}
-use Rattle.image_format.specs.Chunk.{chunkOf, chunkBytes, exactly}
+use Rattle.image_format.specs.Chunk.{Read, chunkOf, chunkBytes, exactly}
 use Rattle.image_format.specs.Head.{headOf, headBytes}
 use Rattle.image_format.specs.Segment.{Segment, segmentsOf, segmentsBytes, lengthsOf, gatesOf, gatedomainsOf}
 use Rattle.image_format.specs.Domain.{Domain, domainsOf, domainsBytes, stacksOf}
@@ -19,25 +21,6 @@ pub record Image : Type 0 where
   pub start : Start
   pub segments : List Segment
   pub domains : List Domain
-
--- kind 4, and no bytes after it
-unfoldable pub endOf : List ℕ → Answer (Unit {0})
-endOf bytes = chunkOf 4 (exactly 0) bytes >>= (λ c. require (eqb (length (c .rest)) 0) bytesLeft)
-
--- the image in some bytes
-unfoldable pub imageOf : List ℕ → Answer Image
-imageOf bytes =
-    headOf bytes >>= (λ h.
-    segmentsOf (h .value .segments) (h .value .domains) 8192 (h .rest) >>= (λ s.
-    domainsOf (h .value .domains) (h .value .segments) (s .rest) >>= (λ d.
-    endOf (d .rest) >>
-    ok (record { start = h .value .start; segments = s .value; domains = d .value }))))
-
--- the bytes that hold an image
-unfoldable pub bytesOf : Image → List ℕ
-bytesOf i =
-    headBytes (record { start = i .start; segments = length (i .segments); domains = length (i .domains) }) ++
-    (segmentsBytes (i .segments) ++ (domainsBytes (i .domains) ++ chunkBytes 4 []))
 
 -- the numbers, with zeros after them up to n
 unfoldable pub padded : ℕ → List ℕ → List ℕ
@@ -60,6 +43,33 @@ layoutOf i =
       segments = length (i .segments);
       domains = length (i .domains);
     }
+
+-- no gate of an image is dead
+abbrev pub gatesPass : Image → Bool
+gatesPass i = let l = layoutOf i in gatesTest (l .gates) (l .gatedomains) (l .rights)
+
+-- what the chunks at the front of some bytes hold, kind 4 the last, and the bytes after it
+unfoldable pub chunksOf : List ℕ → Answer (Read Image)
+chunksOf bytes =
+    headOf bytes >>= (λ h.
+    segmentsOf (h .value .segments) (h .value .domains) 8192 (h .rest) >>= (λ s.
+    domainsOf (h .value .domains) (h .value .segments) (s .rest) >>= (λ d.
+    chunkOf 4 (exactly 0) (d .rest) >>= (λ e.
+    ok (record { value = record { start = h .value .start; segments = s .value; domains = d .value }; rest = e .rest })))))
+
+-- the image in some bytes: its chunks, then no dead gate, then no bytes after kind 4
+unfoldable pub imageOf : List ℕ → Answer Image
+imageOf bytes =
+    chunksOf bytes >>= (λ i.
+    require (gatesPass (i .value)) deadGate >>
+    require (eqb (length (i .rest)) 0) bytesLeft >>
+    ok (i .value))
+
+-- the bytes that hold an image
+unfoldable pub bytesOf : Image → List ℕ
+bytesOf i =
+    headBytes (record { start = i .start; segments = length (i .segments); domains = length (i .domains) }) ++
+    (segmentsBytes (i .segments) ++ (domainsBytes (i .domains) ++ chunkBytes 4 []))
 
 -- n rows, from row i on
 unfoldable pub rowsFrom : {A : Type 0} → (ℕ → A) → ℕ → ℕ → List A

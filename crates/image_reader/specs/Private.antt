@@ -1,11 +1,15 @@
 -- Definitions that only contracts of private functions cite.
 use Prim.Native.Nat.{ℕ, _+_}
+use mathlib.Core.Bool.{Bool}
 use mathlib.Core.List.{List}
+use lib.Dec.{eqb}
 use lib.ListN.{take, drop, length}
-use Rattle.words.specs.Answer.{Answer, refuse, ok, _>>=_, _>>_}
+use Rattle.words.specs.Answer.{Answer, refuse, ok, _>>=_, _>>_, require}
+use Rattle.words.specs.Numbers.{bytesLeft, deadGate}
+use Rattle.layout_soundness.specs.SoundLayout.{gatesTest}
 use Rattle.image_format.specs.declared.Head.{Head}
 use Rattle.image_format.specs.Bytes.{wordsOf}
-use Rattle.image_format.specs.Chunk.{Read, chunkAt}
+use Rattle.image_format.specs.Chunk.{Read, chunkAt, chunkOf, exactly}
 use Rattle.image_format.specs.Segment.{Segment, lengthsOf, gatesOf, gatedomainsOf}
 use Rattle.image_format.specs.Domain.{Domain, domainsOf, stacksOf}
 use Rattle.image_reader.specs.declared.chunk.HeaderAnswer.{HeaderAnswer}
@@ -14,7 +18,7 @@ use Rattle.image_reader.specs.declared.head.HeadAnswer.{HeadAnswer}
 use Rattle.image_reader.specs.declared.segment.SegmentAnswer.{SegmentAnswer}
 use Rattle.image_reader.specs.declared.domain.DomainAnswer.{DomainAnswer}
 use Rattle.state.specs.declared.record.Layout.{Layout}
-use Rattle.image_format.specs.Image.{padded, allRows, endOf}
+use Rattle.image_format.specs.Image.{padded, allRows}
 use Rattle.image_reader.specs.declared.segment.Place.{Place}
 use Rattle.image_reader.specs.declared.segment.Segments.{Segments}
 use Rattle.image_reader.specs.declared.domain.Domains.{Domains}
@@ -119,9 +123,13 @@ rowsLayout h s d =
       domains = h .domains;
     }
 
+-- kind 4, then that the gates pass their test, then no bytes after kind 4
+unfoldable pub endOf : Bool → List ℕ → Answer (Unit {0})
+endOf pass bytes = chunkOf 4 (exactly 0) bytes >>= (λ c. require pass deadGate >> require (eqb (length (c .rest)) 0) bytesLeft)
+
 -- the layout, where the segments' rows are known
 unfoldable pub afterSegments : Head → SegmentRows → Answer Layout
-afterSegments h s = domainRows (domainsOf (h .domains) (h .segments) (s .rest)) >>= (λ d. endOf (d .rest) >> ok (rowsLayout h s d))
+afterSegments h s = domainRows (domainsOf (h .domains) (h .segments) (s .rest)) >>= (λ d. endOf (gatesTest (s .gates) (s .gatedomains) (d .rights)) (d .rest) >> ok (rowsLayout h s d))
 
 -- what the code's answer stands for
 abbrev pub judgedAnswer : Judged → Answer Layout

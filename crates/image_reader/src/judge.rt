@@ -3,9 +3,9 @@ ghost use mathlib.Core.Path.{_≡_};
 ghost use Prim.Native.Nat.{_≤_};
 ghost use lib.ListN.{drop};
 ghost use Rattle.words.specs.Answer.{refuse};
-ghost use Rattle.image_format.specs.Image.{endOf, imageOf, layoutOf};
+ghost use Rattle.image_format.specs.Image.{imageOf, layoutOf};
 ghost use Rattle.image_reader.specs.Reader.{mapped};
-ghost use Rattle.image_reader.specs.Private.{verdictAnswer, afterSegments, judgedAnswer};
+ghost use Rattle.image_reader.specs.Private.{verdictAnswer, endOf, afterSegments, judgedAnswer};
 use crate::bytes::left;
 use crate::chunk::Verdict;
 use crate::chunk::exact;
@@ -17,6 +17,7 @@ use crate::segment::Segments;
 use crate::segment::segment_chunks;
 use fresh::empty_layout;
 use image_format::Head;
+use layout_soundness::gates_sound;
 use state::record::Layout;
 
 // The layout of an image that is passed.
@@ -35,14 +36,18 @@ fn refused(n: u8) -> Judged
     }
 }
 
-// Kind 4 at a place, and no bytes after it.
-fn end(image: &[u8], at: usize) -> Verdict
-    ensures { λ r. ⌜ verdictAnswer r ≡ endOf (drop at (now (image .entry))) ⌝ }
+// Kind 4 at a place, then that the gates pass their test, and no bytes after kind 4.
+fn end(image: &[u8], at: usize, pass: bool) -> Verdict
+    ensures { λ r. ⌜ verdictAnswer r ≡ endOf pass (drop at (now (image .entry))) ⌝ }
 {
     match exact(image, at, 4, 0) {
         Verdict::Refused(n) => Verdict::Refused(n),
         Verdict::Passed => {
-            if left(image, at) != 4 {
+            let rest = left(image, at);
+            if !pass {
+                return Verdict::Refused(10);
+            }
+            if rest != 4 {
                 return Verdict::Refused(6);
             }
             Verdict::Passed
@@ -59,31 +64,29 @@ fn after_segments(image: &[u8], at: usize, h: Head, s: Segments) -> Judged
     let place = d.place;
     match place {
         Place::Refused(n) => refused(n),
-        Place::At(at) => match end(image, at) {
-            Verdict::Refused(n) => refused(n),
-            Verdict::Passed => {
-                let lengths = s.lengths;
-                let gates = s.gates;
-                let gatedomains = s.gatedomains;
-                let stacks = d.stacks;
-                let rights = d.rights;
-                let start = h.start;
-                let layout = Layout {
-                    lengths,
-                    gates,
-                    start,
-                    gatedomains,
-                    stacks,
-                    rights,
-                    segments: h.segments,
-                    domains: h.domains,
-                };
-                Judged {
-                    layout,
-                    verdict: Verdict::Passed,
-                }
+        Place::At(at) => {
+            let lengths = s.lengths;
+            let gates = s.gates;
+            let gatedomains = s.gatedomains;
+            let stacks = d.stacks;
+            let rights = d.rights;
+            let start = h.start;
+            let pass = gates_sound(&gates, &gatedomains, &rights);
+            let layout = Layout {
+                lengths,
+                gates,
+                start,
+                gatedomains,
+                stacks,
+                rights,
+                segments: h.segments,
+                domains: h.domains,
+            };
+            Judged {
+                layout,
+                verdict: end(image, at, pass),
             }
-        },
+        }
     }
 }
 

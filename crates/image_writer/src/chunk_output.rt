@@ -3,7 +3,7 @@ ghost use mathlib.Core.Path.{_≡_};
 ghost use mathlib.Core.Bool.{true};
 ghost use Prim.Native.Nat.{_+_, _*_, _≤_, _<_};
 ghost use lib.ListN.{length, take, drop};
-ghost use Rattle.layout_soundness.specs.SoundLayout.{layoutTest};
+ghost use Rattle.layout_soundness.specs.SoundLayout.{rangesTest};
 ghost use Rattle.image_format.specs.Head.{headBytes};
 ghost use Rattle.image_format.specs.Segment.{segmentBytes, segmentsBytes};
 ghost use Rattle.image_format.specs.Domain.{domainBytes, domainsBytes};
@@ -73,7 +73,7 @@ fn put_domain(output: &mut [u8], at: usize, stack: u8, rights: [u8; 128], base: 
 
 // Kind 2 for each segment, from a place on; the place after them.
 pub fn put_segments(output: &mut [u8], start: usize, layout: Layout, words: &[u32]) -> usize
-    requires { ⌜ layoutTest layout ≡ true ⌝ }
+    requires { ⌜ rangesTest layout ≡ true ⌝ }
     requires { ⌜ 8192 ≤ length (now words) ⌝ }
     requires { ⌜ start + length (segmentsBytes (segmentsIn layout (now words))) ≤ length (now output) ⌝ }
     ensures { λ r. ⌜ r ≡ start + length (segmentsBytes (segmentsIn layout (now (words .entry)))) ⌝ }
@@ -98,7 +98,7 @@ pub fn put_segments(output: &mut [u8], start: usize, layout: Layout, words: &[u3
 
 // Kind 3 for each domain, from a place on; the place after them.
 pub fn put_domains(output: &mut [u8], start: usize, layout: Layout) -> usize
-    requires { ⌜ layoutTest layout ≡ true ⌝ }
+    requires { ⌜ rangesTest layout ≡ true ⌝ }
     requires { ⌜ start + length (domainsBytes (domainsIn layout)) ≤ length (now output) ⌝ }
     ensures { λ r. ⌜ r ≡ start + length (domainsBytes (domainsIn layout)) ⌝ }
     ensures { λ r. ⌜ now (output .exit) ≡ written (now (output .entry)) start (domainsBytes (domainsIn layout)) ⌝ }

@@ -7,7 +7,7 @@ ghost use mathlib.Core.Bool.{true};
 ghost use mathlib.Core.List.{_++_};
 ghost use Prim.Native.Nat.{_≤_};
 ghost use lib.ListN.{length, drop};
-ghost use Rattle.layout_soundness.specs.SoundLayout.{layoutTest};
+ghost use Rattle.layout_soundness.specs.SoundLayout.{rangesTest};
 ghost use Rattle.image_format.specs.Image.{imageFrom, bytesOf};
 ghost use Rattle.image_writer.specs.Writer.{writeImage, writeResult, outputAfter};
 use crate::chunk_output::put_domains;
@@ -28,7 +28,7 @@ pub struct Written {
 
 // The length of the image of a layout.
 fn size(layout: Layout, words: &[u32]) -> usize
-    requires { ⌜ (layoutTest layout ≡ true) × (8192 ≤ length (now words)) ⌝ }
+    requires { ⌜ (rangesTest layout ≡ true) × (8192 ≤ length (now words)) ⌝ }
     ensures { λ r. ⌜ r ≡ length (bytesOf (imageFrom layout (now (words .entry)))) ⌝ }
 {
     let segments = layout.segments as usize;
@@ -39,7 +39,7 @@ fn size(layout: Layout, words: &[u32]) -> usize
 
 // The chunks of a layout's image.
 fn put_image(output: &mut [u8], layout: Layout, words: &[u32])
-    requires { ⌜ layoutTest layout ≡ true ⌝ }
+    requires { ⌜ rangesTest layout ≡ true ⌝ }
     requires { ⌜ 8192 ≤ length (now words) ⌝ }
     requires { ⌜ length (bytesOf (imageFrom layout (now words))) ≤ length (now output) ⌝ }
     ensures { λ r. ⌜ now (output .exit) ≡ bytesOf (imageFrom layout (now (words .entry))) ++ drop (length (bytesOf (imageFrom layout (now (words .entry))))) (now (output .entry)) ⌝ }

@@ -14,7 +14,7 @@ use Rattle.words.specs.ModeWord.{modeOf}
 use Rattle.state.specs.declared.record.Machine.{Machine}
 use Rattle.state.specs.Record.{noPointer, noCapability, freeFrame}
 use Rattle.state.specs.Bases.{baseOf, basesOf}
-use Rattle.layout_soundness.specs.SoundLayout.{allFrom, segmentTest, stackTest, rightsTest, startTest, layoutTest}
+use Rattle.layout_soundness.specs.SoundLayout.{allFrom, segmentTest, stackTest, rightsTest, startTest, gateTest, gatesTest, rangesTest, layoutTest}
 use Rattle.soundness.specs.Sound.{registersTest, pointerTest, pointersTest, capabilityTest, emptyCapability, emptyPointer, emptyFrame, frameTest, framesTest, soundTest}
 use Rattle.references.specs.declared.flag.Flag.the-variants as flag
 use Rattle.references.specs.declared.flag.Access.the-variants as access
@@ -134,11 +134,11 @@ computed hidden rest = record {
 
 -- both machines are sound
 pub start-sound : soundTest start ≡ true
-unfolding start baseOf allFrom segmentTest stackTest rightsTest startTest layoutTest registersTest pointerTest pointersTest capabilityTest emptyCapability emptyPointer emptyFrame frameTest framesTest soundTest
+unfolding start baseOf has rightsOf allFrom segmentTest stackTest rightsTest startTest gateTest gatesTest rangesTest layoutTest registersTest pointerTest pointersTest capabilityTest emptyCapability emptyPointer emptyFrame frameTest framesTest soundTest
 start-sound = refl
 
 pub called-sound : soundTest (called 5) ≡ true
-unfolding start called baseOf allFrom segmentTest stackTest rightsTest startTest layoutTest registersTest pointerTest pointersTest capabilityTest emptyCapability emptyPointer emptyFrame frameTest framesTest soundTest
+unfolding start called baseOf has rightsOf allFrom segmentTest stackTest rightsTest startTest gateTest gatesTest rangesTest layoutTest registersTest pointerTest pointersTest capabilityTest emptyCapability emptyPointer emptyFrame frameTest framesTest soundTest
 called-sound = refl
 
 -- a memory whose rest is long enough has 8,192 words; such a rest, of zeros

@@ -15,6 +15,9 @@ pass p q = simp (p, q)
 pub stop : {a : Bool} (b : Bool) → a ≡ false → false ≡ (a && b)
 stop b p = simp p
 
+pub stop-first : {a : Bool} (b : Bool) → false ≡ a → false ≡ (a && b)
+stop-first b p = simp (← p)
+
 pub in-then : {t a r : Bool} (b : Bool) → t ≡ true → r ≡ a → r ≡ (if t then a else b)
 in-then b p q = simp (p, q)
 

@@ -1,12 +1,16 @@
--- When a layout is sound: every number is in its range, whatever is named exists, and unused rows are zero.
+-- When a layout is sound: every number is in its range, whatever is named exists, no gate is dead, and unused rows are zero.
 use Prim.Native.Nat.{ℕ, zero, suc, _+_, _/_, _%_}
-use mathlib.Core.Bool.{Bool, true, _&&_}
+use mathlib.Core.Bool.{Bool, true, _&&_, _||_}
+use mathlib.Core.List.{List}
 use lib.Dec.{ltb, leb, eqb}
 use lib.ListN.{getD}
 use Rattle.words.specs.Answer.{if_then_else_}
 use Rattle.state.specs.declared.record.Start.{Start}
 use Rattle.state.specs.declared.record.Layout.{Layout}
 use Rattle.state.specs.Bases.{wordsIn}
+use Rattle.references.specs.declared.flag.Flag.the-variants as flag
+use Rattle.references.specs.Flag.{has}
+use Rattle.references.specs.Static.{rightsOf}
 
 -- a test of the n numbers from i on
 unfoldable pub allFrom : ℕ → ℕ → (ℕ → Bool) → Bool
@@ -33,11 +37,24 @@ rightsTest segments domains i rights = if ltb (i / 16) domains && ltb (i % 16) s
 unfoldable pub startTest : ℕ → ℕ → Start → Bool
 startTest segments domains start = ltb (start .domain) domains && (ltb (start .segment) segments && leb (start .word) 4095)
 
-unfoldable pub layoutTest : Layout → Bool
-layoutTest l =
+-- every number of a layout is in its range, whatever is named exists, and unused rows are zero
+unfoldable pub rangesTest : Layout → Bool
+rangesTest l =
     between 1 16 (l .segments) && (between 1 8 (l .domains) && (
     allFrom 16 0 (λ i. segmentTest (l .segments) (l .domains) i (getD (l .lengths) i 0) (getD (l .gates) i 0) (getD (l .gatedomains) i 0)) && (
     leb (wordsIn (l .lengths)) 8192 && (
     allFrom 8 0 (λ i. stackTest (l .segments) (l .domains) i (getD (l .stacks) i 0)) && (
     allFrom 128 0 (λ i. rightsTest (l .segments) (l .domains) i (getD (l .rights) i 0)) &&
     startTest (l .segments) (l .domains) (l .start))))))
+
+-- a segment has no gates, or their domain has E on it; else its gates are dead
+unfoldable pub gateTest : List ℕ → ℕ → ℕ → ℕ → Bool
+gateTest rights i gates domain = eqb gates 0 || has (rightsOf rights domain i) flag.Execute
+
+-- no gate is dead
+unfoldable pub gatesTest : List ℕ → List ℕ → List ℕ → Bool
+gatesTest gates gatedomains rights = allFrom 16 0 (λ i. gateTest rights i (getD gates i 0) (getD gatedomains i 0))
+
+-- a layout is sound where both tests are passed
+unfoldable pub layoutTest : Layout → Bool
+layoutTest l = rangesTest l && gatesTest (l .gates) (l .gatedomains) (l .rights)

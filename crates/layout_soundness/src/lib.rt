@@ -1,8 +1,11 @@
 // When a layout is sound.
 ghost use mathlib.Core.Path.{_≡_};
 ghost use mathlib.Core.Bool.{_&&_};
+ghost use Prim.Native.Nat.{_<_};
 ghost use lib.ListN.{getD};
-ghost use Rattle.layout_soundness.specs.SoundLayout.{allFrom, segmentTest, stackTest, rightsTest, startTest, layoutTest};
+ghost use Rattle.layout_soundness.specs.SoundLayout.{allFrom, segmentTest, stackTest, rightsTest, startTest, gateTest, gatesTest, layoutTest};
+use references::flag::Flag;
+use references::flag::allows;
 use state::bases::words_in;
 use state::record::Layout;
 use state::record::Start;
@@ -120,6 +123,40 @@ fn start_sound(segments: u8, domains: u8, start: Start) -> bool
     start.word <= 4095
 }
 
+// Whether segment i has no gates, or their domain has E on it.
+fn gate_sound(rights: &[u8; 128], i: u8, gates: u16, domain: u8) -> bool
+    requires { ⌜ i < 16 ⌝ }
+    ensures { λ r. ⌜ r ≡ gateTest (now (rights .entry)) i gates domain ⌝ }
+{
+    if gates == 0 {
+        return true;
+    }
+    if 8 <= domain {
+        return false;
+    }
+    let k = domain as usize * 16 + i as usize;
+    allows(rights[k], Flag::Execute)
+}
+
+// Whether no gate is dead.
+pub fn gates_sound<'a>(
+    gates: &'a [u16; 16],
+    gatedomains: &'a [u8; 16],
+    rights: &'a [u8; 128],
+) -> bool
+    ensures { λ r. ⌜ r ≡ gatesTest (now (gates .entry)) (now (gatedomains .entry)) (now (rights .entry)) ⌝ }
+{
+    let mut i = 0u8;
+    while i < 16 {
+        let k = i as usize;
+        if !gate_sound(rights, i, gates[k], gatedomains[k]) {
+            return false;
+        }
+        i += 1;
+    }
+    true
+}
+
 pub fn layout_sound(l: Layout) -> bool
     ensures { λ r. ⌜ r ≡ layoutTest l ⌝ }
 {
@@ -147,5 +184,8 @@ pub fn layout_sound(l: Layout) -> bool
     if !rights_sound(l.segments, l.domains, &l.rights) {
         return false;
     }
-    start_sound(l.segments, l.domains, l.start)
+    if !start_sound(l.segments, l.domains, l.start) {
+        return false;
+    }
+    gates_sound(&l.gates, &l.gatedomains, &l.rights)
 }

@@ -16,7 +16,7 @@ use Rattle.words.specs.InstructionWord.{instructionOf}
 use Rattle.words.specs.ModeWord.{modeOf}
 use Rattle.state.specs.Bases.{baseOf, basesOf}
 use Rattle.fresh.specs.Fresh.{freshOf}
-use Rattle.layout_soundness.specs.SoundLayout.{allFrom, segmentTest, stackTest, rightsTest, startTest, layoutTest}
+use Rattle.layout_soundness.specs.SoundLayout.{allFrom, segmentTest, stackTest, rightsTest, startTest, gateTest, gatesTest, rangesTest, layoutTest}
 use Rattle.soundness.specs.Sound.{registersTest, pointerTest, pointersTest, capabilityTest, emptyCapability, emptyPointer, emptyFrame, frameTest, framesTest, soundTest}
 use Rattle.references.specs.Flag.{has}
 use Rattle.references.specs.Static.{exists, rightsOf, staticOf}
@@ -88,7 +88,7 @@ each (q ∷ rs) e r m =
 
 pub readings : Readings
 unfolding field common pointerWord pointerOf signedOf displacedOf literalOf instructionOf
-    baseOf basesOf freshOf allFrom segmentTest stackTest rightsTest startTest layoutTest registersTest pointerTest pointersTest
+    baseOf basesOf freshOf allFrom segmentTest stackTest rightsTest startTest gateTest gatesTest rangesTest layoutTest registersTest pointerTest pointersTest
     capabilityTest emptyCapability emptyPointer emptyFrame frameTest framesTest soundTest
     has exists rightsOf staticOf coversOf firstOf liveMatch liveOf passedOf verdictOf locateOf referenceOf staticCheck check judgedStatic judgedCheck
     maySee couldWrite segmentCheck

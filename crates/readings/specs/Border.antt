@@ -1,7 +1,7 @@
 -- The borders of every range of a sound record: the last number inside, and the first outside.
 use Prim.Native.Nat.{ℕ, _+_, _-_}
 use mathlib.Core.Bool.{true, false}
-use mathlib.Core.List.{List, [], _∷_, _++_}
+use mathlib.Core.List.{List, [], _∷_, _++_, map}
 use lib.ListN.{replicate}
 use Rattle.words.specs.Answer.{refuse, ok}
 use Rattle.words.specs.declared.pointer.Pointer.{Pointer}
@@ -28,10 +28,10 @@ upTo high m = sound (m high) ∷ unsound (m (high + 1)) ∷ []
 abbrev within : ℕ → ℕ → (ℕ → Machine) → List Row
 within low high m = unsound (m (low - 1)) ∷ sound (m low) ∷ upTo high m
 
--- so many segments of so many words, so many domains, and no rights
+-- so many segments of so many words, and so many domains, which may execute all of them
 abbrev ofSize : ℕ → ℕ → ℕ → Machine
 ofSize segments words domains =
-    machineOf (record { lengths = replicate segments words; gates = []; rights = replicate domains []; capabilities = [] })
+    machineOf (record { lengths = replicate segments words; gates = []; rights = replicate domains (replicate segments 4); capabilities = [] })
 
 -- two segments and two domains; all sixteen and all eight
 abbrev small : Machine
@@ -68,6 +68,25 @@ layoutBorders =
     upTo 1 (λ n. relaid (startTo n 0 0) small) ++
     upTo 4095 (λ n. relaid (startTo 0 n 0) small) ++
     upTo 1 (λ n. relaid (startTo 0 0 n) small)
+
+-- gates of the small machine's segment 1, into domain 1, whose rights there are given
+abbrev gatesUnder : ℕ → ℕ → Machine
+gatesUnder gates rights = relaid (rightTo 17 rights) (relaid (gatesTo 1 gates) small)
+
+-- gates are dead without E, whatever else their domain has there, and whatever other domains have; with gate count 0 any rights are sound
+abbrev gateBorders : List Row
+gateBorders =
+    map (λ n. unsound (gatesUnder 1 n)) (0 ∷ 1 ∷ 2 ∷ 3 ∷ 8 ∷ 9 ∷ 10 ∷ 11 ∷ []) ++
+    map (λ n. sound (gatesUnder 1 n)) (4 ∷ 5 ∷ 6 ∷ 7 ∷ 12 ∷ 13 ∷ 14 ∷ 15 ∷ []) ++
+    unsound (gatesUnder 5 11) ∷ sound (gatesUnder 5 4) ∷ sound (gatesUnder 0 11) ∷ sound (gatesUnder 0 0) ∷
+    unsound (relaid (rightTo 0 11) (relaid (gatedomainTo 0 0) (relaid (gatesTo 0 1) full))) ∷
+    sound (relaid (rightTo 0 4) (relaid (gatedomainTo 0 0) (relaid (gatesTo 0 1) full))) ∷
+    unsound (relaid (rightTo 112 11) (relaid (gatesTo 0 1) full)) ∷
+    unsound (relaid (rightTo 127 11) (relaid (gatesTo 15 1) full)) ∷
+    sound (relaid (rightTo 127 11) (relaid (gatesTo 14 1) full)) ∷
+    sound (relaid (rightTo 111 11) (relaid (gatesTo 15 1) full)) ∷
+    sound (relaid (rightTo 127 11) (relaid (gatedomainTo 15 6) (relaid (gatesTo 15 1) full))) ∷
+    unsound (relaid (rightTo 111 11) (relaid (gatedomainTo 15 6) (relaid (gatesTo 15 1) full))) ∷ []
 
 -- a pointer of a register or of a frame in use
 abbrev pointerBorders : (Pointer → Machine) → List Row
@@ -147,4 +166,4 @@ frameBorders =
 
 -- every range
 abbrev pub borders : List Row
-borders = layoutBorders ++ registerBorders ++ frameBorders
+borders = layoutBorders ++ gateBorders ++ registerBorders ++ frameBorders

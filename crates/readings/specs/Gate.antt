@@ -6,7 +6,7 @@ use Rattle.words.specs.Answer.{refuse, ok}
 use Rattle.words.specs.declared.pointer.Pointer.{Pointer}
 use Rattle.state.specs.declared.record.Machine.{Machine}
 use Rattle.readings.specs.Scene.{untaggedTo, taggedTo, fill, lending, inFrames, machineOf, sceneMemory}
-use Rattle.readings.specs.Change.{lengthTo, gatedomainTo, stackTo, rightTo, relaid, locatedAt, pointing}
+use Rattle.readings.specs.Change.{lengthTo, stackTo, rightTo, relaid, locatedAt, pointing}
 use Rattle.readings.specs.Question.{Question, Row, running, _gives_}
 use Rattle.readings.specs.Word.{eachBit}
 
@@ -26,8 +26,8 @@ callOn gate n p mode = listing gate n 0 ++ arguments n p mode
 -- domain 0 may read and execute 40 words, and call segment 1, whose first of two words is a gate into domain 1, which may execute them
 abbrev caller : Machine
 caller =
-    relaid (gatedomainTo 1 1) (pointing 0 (untaggedTo 0 2)
-    (machineOf (record { lengths = 40 ∷ 2 ∷ []; gates = 0 ∷ 1 ∷ []; rights = (5 ∷ 8 ∷ []) ∷ (0 ∷ 4 ∷ []) ∷ []; capabilities = [] })))
+    pointing 0 (untaggedTo 0 2)
+    (machineOf (record { lengths = 40 ∷ 2 ∷ []; gates = 0 ∷ 1 ∷ []; rights = (5 ∷ 8 ∷ []) ∷ (0 ∷ 4 ∷ []) ∷ []; capabilities = [] }))
 
 -- a call of the gate with n arguments; with one
 abbrev callMany : ℕ → List ℕ

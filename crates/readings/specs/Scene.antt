@@ -1,5 +1,5 @@
 -- Small machines for the readings: a few segments, domains and frames.
-use Prim.Native.Nat.{ℕ}
+use Prim.Native.Nat.{ℕ, _-_}
 use mathlib.Core.Bool.{Bool, true, false}
 use mathlib.Core.List.{List, [], _∷_, _++_}
 use lib.ListN.{length, take, replicate}
@@ -11,7 +11,7 @@ use Rattle.state.specs.declared.record.Machine.{Machine}
 use Rattle.state.specs.Record.{noPointer, noCapability, freeFrame}
 use Rattle.fresh.specs.Fresh.{freshOf}
 
--- the segments' lengths and gate counts, for each domain its rights on them, and the capabilities of the live frame; domain 0 executes, and gates lead into it
+-- the segments' lengths and gate counts, for each domain its rights on them, and the capabilities of the live frame; domain 0 executes, and gates lead into the last domain
 pub record Scene : Type 0 where
   pub lengths : List ℕ
   pub gates : List ℕ
@@ -52,7 +52,7 @@ sceneLayout s =
       lengths = fill 16 0 (s .lengths);
       gates = fill 16 0 (s .gates);
       start = record { word = 0; segment = 0; domain = 0 };
-      gatedomains = replicate 16 0;
+      gatedomains = fill 16 0 (replicate (length (s .lengths)) (length (s .rights) - 1));
       stacks = replicate 8 0;
       rights = fill 128 0 (rows (s .rights));
       segments = length (s .lengths);

@@ -31,13 +31,13 @@ fourWords =
 abbrev twoMatches : Scene
 twoMatches = record { lengths = 8 ∷ []; gates = []; rights = (4 ∷ []) ∷ (2 ∷ []) ∷ (1 ∷ []) ∷ []; capabilities = readOn 0 4 4 1 ∷ readOn 0 4 4 2 ∷ [] }
 
--- read and write on the same words in two capabilities; segment 1 is a gate
+-- read and write on the same words in two capabilities; segment 1 is a gate into domain 1
 abbrev readAndWrite : Scene
 readAndWrite =
     record {
       lengths = 7 ∷ 1 ∷ 8 ∷ [];
       gates = 0 ∷ 1 ∷ [];
-      rights = (5 ∷ 8 ∷ []) ∷ (0 ∷ 0 ∷ 3 ∷ []) ∷ [];
+      rights = (5 ∷ 8 ∷ []) ∷ (0 ∷ 4 ∷ 3 ∷ []) ∷ [];
       capabilities = readOn 2 4 4 1 ∷ writeOn 2 4 4 1 ∷ [];
     }
 

@@ -5,21 +5,18 @@ use native.Mathlib.Nat.{mul-le-mul}
 use mathlib.Core.Path.{_≡_, sym, ap, _∙_, subst}
 use mathlib.Core.List.{List}
 use lib.Dec.{eqb}
-use lib.ListN.{length, drop, length-drop}
-use borrow.Author.Tests.{eqb-true}
+use lib.ListN.{length, length-drop}
 use Rattle.words.specs.Answer.{ok, require}
 use Rattle.words.specs.Field.{field}
 use Rattle.words.specs.PointerWord.{pointerOf}
 use Rattle.words.specs.declared.pointer.Pointer.{Pointer}
 use Rattle.words.proofs.Fields.{field-lt}
-use Rattle.image_format.specs.Chunk.{Read, chunkOf, exactly}
 use Rattle.image_format.specs.Segment.{Segment, allWords}
 use Rattle.image_format.specs.Domain.{Domain}
-use Rattle.image_format.specs.Image.{Image, endOf, imageOf}
+use Rattle.image_format.specs.Image.{Image, imageOf}
 use Rattle.image_format.specs.declared.Head.{Head}
-use Rattle.image_format.proofs.Answers.{test, after, bound, the-value}
-use Rattle.image_format.proofs.Chunks.{chunk-facts, exact-size}
-use Rattle.image_format.proofs.Images.{ImageRead, image-facts, HeadRead, head-facts, segments-count, domains-count}
+use Rattle.image_format.proofs.Answers.{after, the-value}
+use Rattle.image_format.proofs.Images.{ImageRead, image-facts, end-facts, HeadRead, head-facts, segments-count, domains-count}
 use Rattle.roundtrips.proofs.Good.{Good, GoodSegment, GoodSegments, GoodDomain, GoodDomains, All, good-segments, good-domains}
 
 -- a pointer that is read has a word number of at most 4,095
@@ -30,17 +27,6 @@ pointer-word w p e =
     let v : field 0 12 w ≡ p .word = ap (λ (q : Pointer). q .word) (the-value (t .1)) in
     let h : field 0 12 w < 4096 = field-lt 0 12 w in
     omega arith
-
-end-length : (bytes : List ℕ) → endOf bytes ≡ ok tt → length bytes ≡ 4
-unfolding endOf
-end-length bytes e =
-    let b = bound (chunkOf 4 (exactly 0) bytes) _ e in
-    let k = chunk-facts 4 (exactly 0) bytes (b .is) in
-    let n = exact-size 4 0 bytes k in
-    let z = eqb-true (length (b .value .rest)) 0 (test _ 6 (b .next)) in
-    let c : drop 4 bytes ≡ b .value .rest = ap (λ (m : ℕ). drop (4 + m) bytes) (sym n) ∙ ap (λ (x : Read (List ℕ)). x .rest) (k .is) in
-    let r = k .room in
-    omega (arith, ap length c, length-drop 4 bytes)
 
 module _ (bytes : List ℕ) (i : Image) (e : imageOf bytes ≡ ok i) where
   f : ImageRead bytes i
@@ -91,9 +77,9 @@ module _ (bytes : List ℕ) (i : Image) (e : imageOf bytes ≡ ok i) where
   longest =
       let g = accepted in
       let a : length (f .head .rest) ≡ length bytes - 12 = ap length (h .rest-is) ∙ length-drop 12 bytes in
-      let z = end-length (f .domains .rest) (f .end-is) in
+      let z = end-facts (f .domains .rest) (f .end-is) (f .none-left) .size in
       let s : length (f .segments .value) ≤ 16 = subst (λ (ss : List Segment). length ss ≤ 16) (sym segments-is) (g .segments-most) in
       let d : length (f .domains .value) ≤ 8 = subst (λ (ds : List Domain). length ds ≤ 8) (sym domains-is) (g .domains-most) in
       let n : 5 + f .head .value .segments ≤ 21 = omega (arith, count-segments, g .segments-most) in
       let r = mul-le-mul d n in
-      omega (arith, h .room, gs .taken, gs .fits, gd .taken)
+      omega (arith, h .room, gs .taken, gs .fits, gd .taken, z)

@@ -10,7 +10,7 @@ use lib.Seq.{getD-append-add, take-all}
 use borrow.Author.Tests.{lt-ltb, le-leb, eq-eqb, ltb-true, ltb-false, leb-true}
 use Rattle.words.specs.Answer.{ok}
 use Rattle.state.specs.Bases.{total, baseOf, wordsIn}
-use Rattle.layout_soundness.specs.SoundLayout.{between, segmentTest, stackTest, rightsTest, startTest, layoutTest}
+use Rattle.layout_soundness.specs.SoundLayout.{between, segmentTest, stackTest, rightsTest, startTest, rangesTest, layoutTest}
 use Rattle.soundness.specs.Sound.{soundTest}
 use Rattle.fresh.specs.Fresh.{freshOf}
 use Rattle.layout_soundness.proofs.Tests.{join, inside, both, either-part}
@@ -19,8 +19,9 @@ use Rattle.soundness.proofs.FreshSound.{fresh-sound}
 use Rattle.image_format.specs.Bytes.{joined}
 use Rattle.image_format.specs.Segment.{Segment, allWords, lengthsOf, gatesOf, gatedomainsOf}
 use Rattle.image_format.specs.Domain.{Domain, allRights, stacksOf}
-use Rattle.image_format.specs.Image.{Image, imageOf, layoutOf, padded, allRows}
+use Rattle.image_format.specs.Image.{Image, gatesPass, imageOf, layoutOf, padded, allRows}
 use Rattle.image_format.proofs.Padded.{padded-length}
+use Rattle.image_format.proofs.Images.{image-facts}
 use Rattle.roundtrips.proofs.Good.{All, all-at, Good, GoodSegment, GoodDomain}
 use Rattle.roundtrips.proofs.Accepted.{accepted}
 
@@ -180,16 +181,16 @@ module _ (i : Image) (g : Good i) where
           let h : domains ≤ j / 16 = ltb-false _ _ p in
           eq-eqb _ 0 (padded-past 128 (allRows (i .domains)) j (rw size (let l : 16 * domains ≤ j = omega arith in l)))
 
-  pub layout-sound : layoutTest (layoutOf i) ≡ true
-  unfolding layoutTest startTest layoutOf
-  layout-sound =
-      join (inside (g .some-segments) (g .segments-most)) (join (inside (g .some-domains) (g .domains-most)) (
+  pub layout-sound : gatesPass i ≡ true → layoutTest (layoutOf i) ≡ true
+  unfolding layoutTest rangesTest startTest layoutOf
+  layout-sound passes =
+      join (join (inside (g .some-segments) (g .segments-most)) (join (inside (g .some-domains) (g .domains-most)) (
       join (all 16 (λ j. segmentTest segments domains j (getD (padded 16 (lengthsOf (i .segments))) j 0) (getD (padded 16 (gatesOf (i .segments))) j 0) (getD (padded 16 (gatedomainsOf (i .segments))) j 0)) (λ j h. segment-sound j)) (
       join (le-leb (wordsIn (padded 16 (lengthsOf (i .segments)))) 8192 (rw (words-in (i .segments) (g .segments-most)) (g .words))) (
       join (all 8 (λ j. stackTest segments domains j (getD (padded 8 (stacksOf (i .domains))) j 0)) (λ j h. stack-sound j)) (
       join (all 128 (λ j. rightsTest segments domains j (getD (padded 128 (allRows (i .domains))) j 0)) (λ j h. right-sound j))
-      (join (lt-ltb _ _ (g .start-domain)) (join (lt-ltb _ _ (g .start-segment)) (le-leb _ _ (g .start-word)))))))))
+      (join (lt-ltb _ _ (g .start-domain)) (join (lt-ltb _ _ (g .start-segment)) (le-leb _ _ (g .start-word)))))))))) passes
 
 -- the fresh machine of an accepted image is sound
 pub accepted-sound : (bytes : List ℕ) (i : Image) → imageOf bytes ≡ ok i → soundTest (freshOf (layoutOf i)) ≡ true
-accepted-sound bytes i e = fresh-sound (layoutOf i) (layout-sound i (accepted bytes i e))
+accepted-sound bytes i e = fresh-sound (layoutOf i) (layout-sound i (accepted bytes i e) (image-facts bytes e .gates-pass))

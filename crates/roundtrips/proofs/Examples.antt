@@ -1,4 +1,4 @@
--- The image of the paper's readings, and a refusal of each number, computed.
+-- The image of the paper's readings, and a refusal of each number from 1 to 7, computed.
 use Prim.Native.Nat.{ℕ, _/_, _%_}
 use mathlib.Core.Path.{_≡_, refl}
 use mathlib.Core.List.{List, [], _∷_, _++_}
@@ -6,12 +6,13 @@ use lib.ListN.{take, replicate, set}
 use Rattle.words.specs.Answer.{Answer, refuse, ok}
 use Rattle.words.specs.Field.{field}
 use Rattle.words.specs.PointerWord.{pointerOf}
-use Rattle.image_format.specs.Bytes.{pairOf, wordOf, wordsOf}
+use Rattle.layout_soundness.specs.SoundLayout.{allFrom, gateTest, gatesTest}
+use Rattle.image_format.specs.Bytes.{pairOf, wordOf, wordsOf, joined}
 use Rattle.image_format.specs.Chunk.{headerOf, chunkOf}
 use Rattle.image_format.specs.Head.{headFields, headBody, headOf}
 use Rattle.image_format.specs.Segment.{segmentLength, segmentFields, segmentBody, segmentOf, segmentsOf}
 use Rattle.image_format.specs.Domain.{allRights, domainBody, domainOf, domainsOf}
-use Rattle.image_format.specs.Image.{Image, endOf, imageOf}
+use Rattle.image_format.specs.Image.{Image, padded, layoutOf, chunksOf, imageOf}
 use Rattle.image_reader.specs.Reader.{readImage}
 
 -- one segment of one word, HALT, and one domain that may execute it
@@ -31,7 +32,7 @@ exampleImage =
     }
 
 accepted : imageOf example ≡ ok exampleImage
-unfolding imageOf headOf headBody headFields chunkOf headerOf pairOf wordOf wordsOf pointerOf field segmentsOf segmentOf segmentLength segmentBody segmentFields domainsOf domainOf domainBody allRights endOf
+unfolding imageOf headOf headBody headFields chunkOf headerOf pairOf wordOf wordsOf pointerOf field segmentsOf segmentOf segmentLength segmentBody segmentFields domainsOf domainOf domainBody allRights padded joined layoutOf chunksOf gatesTest gateTest allFrom
 accepted = refl
 
 -- the header of a segment's chunk, whose body has this length
@@ -62,5 +63,5 @@ refusals =
 
 numbers : refusals ≡
     refuse 1 ∷ refuse 1 ∷ refuse 1 ∷ refuse 2 ∷ refuse 3 ∷ refuse 1 ∷ refuse 4 ∷ refuse 4 ∷ refuse 4 ∷ refuse 5 ∷ refuse 1 ∷ refuse 6 ∷ refuse 7 ∷ []
-unfolding refusals imageOf headOf headBody headFields chunkOf headerOf pairOf wordOf wordsOf pointerOf field segmentsOf segmentOf segmentLength segmentBody segmentFields domainsOf domainOf domainBody allRights endOf readImage
+unfolding refusals imageOf headOf headBody headFields chunkOf headerOf pairOf wordOf wordsOf pointerOf field segmentsOf segmentOf segmentLength segmentBody segmentFields domainsOf domainOf domainBody allRights padded joined layoutOf chunksOf gatesTest gateTest allFrom readImage
 numbers = refl

@@ -12,14 +12,14 @@ use borrow.Author.Tests.{le-ltb, le-leb, ltb-true, ltb-false, eqb-true}
 use Rattle.state.specs.declared.record.Layout.{Layout}
 use Rattle.state.specs.Bases.{baseOf, wordsIn}
 use Rattle.state.proofs.Sums.{base-next, base-zero}
-use Rattle.layout_soundness.specs.SoundLayout.{allFrom, between, segmentTest, stackTest, rightsTest, layoutTest}
+use Rattle.layout_soundness.specs.SoundLayout.{allFrom, between, segmentTest, stackTest, rightsTest, gatesTest, rangesTest}
 use Rattle.layout_soundness.proofs.Tests.{join, both, else-part}
 use Rattle.layout_soundness.proofs.All.{each}
 use Rattle.soundness.proofs.Facts.{LayoutSound}
 use Rattle.image_format.specs.Bytes.{joined}
 use Rattle.image_format.specs.Segment.{Segment, allWords}
 use Rattle.image_format.specs.Domain.{Domain, allRights}
-use Rattle.image_format.specs.Image.{layoutOf, padded, allRows, rowsFrom, segmentAt, domainAt, segmentsIn, domainsIn, imageFrom}
+use Rattle.image_format.specs.Image.{layoutOf, gatesPass, padded, allRows, rowsFrom, segmentAt, domainAt, segmentsIn, domainsIn, imageFrom}
 use Rattle.image_format.proofs.Joined.{joined-snoc, rows-next, rows-length}
 use Rattle.image_format.proofs.Padded.{padded-length}
 use Rattle.image_format.proofs.Sizes.{segment-words, domain-rights, words-all}
@@ -64,8 +64,8 @@ and-false : (a : Bool) {b : Bool} → b ≡ false → (a && b) ≡ false
 and-false true e = e
 and-false false e = refl
 
-zeros : (l : Layout) → layoutTest l ≡ true → Zeros l
-unfolding layoutTest segmentTest stackTest rightsTest
+zeros : (l : Layout) → rangesTest l ≡ true → Zeros l
+unfolding rangesTest segmentTest stackTest rightsTest
 zeros l e =
     let t = both (between 1 16 (l .segments)) _ e in
     let u = both (between 1 8 (l .domains)) _ (t .1) in
@@ -221,3 +221,7 @@ module _ (l : Layout) (words : List ℕ) (s : LayoutSound l) (a : Arrays l) (eno
         segments = count-segments j;
         domains = count-domains j;
       }
+
+  -- so its gates pass where the layout's do
+  pub gates-back : gatesPass (imageFrom l words) ≡ gatesTest (l .gates) (l .gatedomains) (l .rights)
+  gates-back = ap (λ (x : Layout). gatesTest (x .gates) (x .gatedomains) (x .rights)) layout-back

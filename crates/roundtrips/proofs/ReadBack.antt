@@ -2,7 +2,7 @@
 use Prim.Native.Nat.{ℕ, suc, _+_, _-_, _*_, _/_, _%_, _^_, _<_, _≤_}
 use native.Mathlib.Omega.{arith}
 use mathlib.Core.Path.{_≡_, refl, sym, ap, _∙_}
-use mathlib.Core.Bool.{false}
+use mathlib.Core.Bool.{true, false}
 use mathlib.Core.List.{List, [], _∷_, _++_, append-assoc, append-nil}
 use lib.ListN.{length, drop, length-append}
 use lib.Seq.{take-append-seam, drop-append-seam}
@@ -16,7 +16,7 @@ use Rattle.image_format.specs.Chunk.{chunkAt, headerOf, chunkOf, exactly, chunk
 use Rattle.image_format.specs.Head.{headFields, headBody, headOf, headBytes, startWord}
 use Rattle.image_format.specs.Segment.{Segment, wordCount, segmentLength, segmentFields, segmentBody, segmentOf, segmentsOf, segmentBytes, segmentsBytes, allWords}
 use Rattle.image_format.specs.Domain.{Domain, domainBody, domainOf, domainsOf, domainBytes, domainsBytes}
-use Rattle.image_format.specs.Image.{Image, endOf, imageOf, bytesOf}
+use Rattle.image_format.specs.Image.{Image, gatesPass, chunksOf, imageOf, bytesOf}
 use Rattle.image_format.specs.declared.Head.{Head}
 use Rattle.roundtrips.proofs.Good.{All, Good, GoodSegment, GoodDomain}
 use Rattle.image_format.proofs.Written.{words-size}
@@ -195,18 +195,24 @@ module _ (h : Head) (rest : List ℕ) (some-segments : 1 ≤ h .segments) (segme
   head-back =
       simp (chunk-back 1 (exactly 8) head-body rest (omega arith) (omega (arith, head-length)) (simp (eq-eqb (length head-body) 8 head-length)), body-is)
 
-end-back : endOf (chunkBytes 4 []) ≡ ok tt
-unfolding endOf
-end-back = rw (sym (append-nil (chunkBytes 4 [])), chunk-back 4 (exactly 0) [] [] (omega arith) (omega arith) refl)
+-- the chunks of an image, and bytes after them
+pub chunks-back : (i : Image) (rest : List ℕ) → Good i → All (λ s. Below (2 ^ 32) (s .words)) (i .segments) → chunksOf (bytesOf i ++ rest) ≡ ok (record { value = i; rest = rest })
+unfolding chunksOf bytesOf
+chunks-back i rest g wide =
+    let h : Head = record { start = i .start; segments = length (i .segments); domains = length (i .domains) } in
+    let end = chunkBytes 4 [] ++ rest in
+    simp (
+      append-assoc (headBytes h) (segmentsBytes (i .segments) ++ (domainsBytes (i .domains) ++ chunkBytes 4 [])) rest,
+      append-assoc (segmentsBytes (i .segments)) (domainsBytes (i .domains) ++ chunkBytes 4 []) rest,
+      append-assoc (domainsBytes (i .domains)) (chunkBytes 4 []) rest,
+      head-back h (segmentsBytes (i .segments) ++ (domainsBytes (i .domains) ++ end)) (g .some-segments) (g .segments-most) (g .some-domains) (g .domains-most) (g .start-domain) (g .start-segment) (g .start-word),
+      segments-back (length (i .domains)) 8192 (i .segments) (domainsBytes (i .domains) ++ end) (g .segments) (g .words) wide,
+      domains-back (length (i .segments)) (i .domains) end (g .segments-most) (g .domains),
+      chunk-back 4 (exactly 0) [] rest (omega arith) (omega arith) refl,
+    )
 
 -- an image
-pub image-back : (i : Image) → Good i → All (λ s. Below (2 ^ 32) (s .words)) (i .segments) → imageOf (bytesOf i) ≡ ok i
-unfolding imageOf bytesOf
-image-back i g wide =
-    let h : Head = record { start = i .start; segments = length (i .segments); domains = length (i .domains) } in
-    simp (
-      head-back h (segmentsBytes (i .segments) ++ (domainsBytes (i .domains) ++ chunkBytes 4 [])) (g .some-segments) (g .segments-most) (g .some-domains) (g .domains-most) (g .start-domain) (g .start-segment) (g .start-word),
-      segments-back (length (i .domains)) 8192 (i .segments) (domainsBytes (i .domains) ++ chunkBytes 4 []) (g .segments) (g .words) wide,
-      domains-back (length (i .segments)) (i .domains) (chunkBytes 4 []) (g .segments-most) (g .domains),
-      end-back,
-    )
+pub image-back : (i : Image) → Good i → All (λ s. Below (2 ^ 32) (s .words)) (i .segments) → gatesPass i ≡ true → imageOf (bytesOf i) ≡ ok i
+unfolding imageOf
+image-back i g wide passes =
+    ap imageOf (sym (append-nil (bytesOf i))) ∙ simp (chunks-back i [] g wide, passes)

@@ -13,6 +13,7 @@ use Rattle.state.specs.declared.record.Machine.{Machine}
 use Rattle.state.specs.Bases.{wordsIn}
 use Rattle.soundness.specs.Sound.{soundTest}
 use Rattle.fresh.specs.Fresh.{freshOf}
+use Rattle.layout_soundness.proofs.Gates.{facts-gates}
 use Rattle.soundness.proofs.Facts.{sound-facts}
 use Rattle.image_format.specs.Segment.{allWords}
 use Rattle.image_format.specs.Image.{Image, imageOf, imageFrom, bytesOf, layoutOf, segmentsIn}
@@ -23,7 +24,7 @@ use Rattle.roundtrips.proofs.Accepted.{accepted, longest}
 use Rattle.roundtrips.proofs.AcceptedSound.{accepted-sound}
 use Rattle.roundtrips.proofs.ReadBack.{image-back}
 use Rattle.roundtrips.proofs.WriteBack.{image-forth}
-use Rattle.roundtrips.proofs.LayoutBack.{words-in-order, words-count, good-image, wide-image, layout-back}
+use Rattle.roundtrips.proofs.LayoutBack.{words-in-order, words-count, good-image, wide-image, layout-back, gates-back}
 use Rattle.roundtrips.proofs.LayoutForth.{image-again}
 use Rattle.roundtrips.specs.Statements.{WriteThenRead, ReadThenWrite, ReadSound, ReadLongest}
 
@@ -50,9 +51,10 @@ unfolding readImage machineAfter memoryAfter
 write-then-read m words output bytes e a b m′ ws h =
     let w = wrote m words output bytes e in
     let l = m .layout in
-    let s = sound-facts m (w .sound) .layout in
+    let f = sound-facts m (w .sound) in
+    let s = f .layout in
     let i = imageFrom l words in
-    let back : imageOf bytes ≡ ok i = ap imageOf (sym (w .is)) ∙ image-back i (good-image l words s a (w .enough)) (wide-image l words s a (w .enough) b) in
+    let back : imageOf bytes ≡ ok i = ap imageOf (sym (w .is)) ∙ image-back i (good-image l words s a (w .enough)) (wide-image l words s a (w .enough) b) (gates-back l words s a (w .enough) ∙ facts-gates _ _ _ (f .gates)) in
     let r : readImage bytes ws ≡ ok i = simp (le-leb 8192 (length ws) h) back in
     let n : length (allWords (segmentsIn l words)) ≡ wordsIn (l .lengths) = words-count l words s a (w .enough) in
     record {

@@ -7,22 +7,20 @@ use mathlib.Core.List.{List, [], _∷_, _++_, append-assoc, append-nil}
 use lib.Dec.{ltb}
 use lib.ListN.{length, getD, take, drop, length-drop, length-take, take-append-drop, List·getD-eq-default}
 use lib.Seq.{getD-drop, getD-take, drop-drop}
-use borrow.Author.Tests.{ltb-true, ltb-false, eqb-true}
+use borrow.Author.Tests.{ltb-true, ltb-false}
 use Rattle.words.specs.Answer.{ok}
 use Rattle.words.specs.PointerWord.{pointerWord}
 use Rattle.words.proofs.RoundTrips.{pack-unpacked}
 use Rattle.image_format.specs.Bytes.{pairOf, pairBytes, wordOf, wordBytes, wordsOf, wordsBytes, joined}
-use Rattle.image_format.specs.Chunk.{Read, chunkOf, exactly, chunkBytes}
+use Rattle.image_format.specs.Chunk.{Read, chunkBytes}
 use Rattle.image_format.specs.Head.{headBytes, startWord}
 use Rattle.image_format.specs.Segment.{Segment, wordCount, segmentOf, segmentsOf, segmentBytes, segmentsBytes}
 use Rattle.image_format.specs.Domain.{Domain, domainOf, domainsOf, domainBytes, domainsBytes}
-use Rattle.image_format.specs.Image.{Image, endOf, imageOf, bytesOf}
+use Rattle.image_format.specs.Image.{Image, imageOf, bytesOf}
 use Rattle.image_format.specs.declared.Head.{Head}
-use Rattle.image_format.proofs.Answers.{test, bound}
 use Rattle.image_format.proofs.Bodies.{body-length}
-use Rattle.image_format.proofs.Chunks.{chunk-facts, exact-size}
 use Rattle.image_format.proofs.Segments.{segment-facts}
-use Rattle.image_format.proofs.Images.{image-facts, head-facts, HeadRead, segments-facts, segments-end, segments-count, domains-facts, domains-end, domains-count}
+use Rattle.image_format.proofs.Images.{image-facts, Ended, end-facts, head-facts, HeadRead, segments-facts, segments-end, segments-count, domains-facts, domains-end, domains-count}
 use Rattle.roundtrips.proofs.Good.{domain-facts}
 use Rattle.roundtrips.specs.Statements.{Below}
 
@@ -179,16 +177,11 @@ head-forth bytes {h} b p =
     (λ j. getD body 0 0 ∷ getD body 1 0 ∷ getD body 2 0 ∷ sym (g .unused-zero) j ∷ (ap wordBytes start ∙ word) j) ∙ four-more body (omega arith) in
     (λ j. headBytes (sym (g .is) j) ++ p .rest-is j) ∙ (λ j. chunkBytes 1 (whole j) ++ drop 12 bytes) ∙ chunk-forth 1 8 bytes b (p .size-is) (p .kind-is) (p .room)
 
-end-forth : (bytes : List ℕ) → Below 256 bytes → endOf bytes ≡ ok tt → chunkBytes 4 [] ≡ bytes
-unfolding endOf
-end-forth bytes b e =
-    let c = bound (chunkOf 4 (exactly 0) bytes) _ e in
-    let k = chunk-facts 4 (exactly 0) bytes (c .is) in
-    let n = exact-size 4 0 bytes k in
-    let z = eqb-true (length (c .value .rest)) 0 (test _ 6 (c .next)) in
-    let r : drop 4 bytes ≡ c .value .rest = ap (λ (m : ℕ). drop (4 + m) bytes) (sym n) ∙ ap (λ (x : Read (List ℕ)). x .rest) (k .is) in
-    sym (append-nil (chunkBytes 4 [])) ∙ ap (λ (ys : List ℕ). chunkBytes 4 [] ++ ys) (sym (none-left (drop 4 bytes) (ap length r ∙ z))) ∙
-    chunk-forth 4 0 bytes b n (k .kind-is) (subst (λ (m : ℕ). 4 + m ≤ length bytes) n (k .room))
+end-forth : (bytes : List ℕ) → Below 256 bytes → Ended bytes → chunkBytes 4 [] ≡ bytes
+end-forth bytes b f =
+    let s = f .size in
+    sym (append-nil (chunkBytes 4 [])) ∙ ap (λ (ys : List ℕ). chunkBytes 4 [] ++ ys) (sym (none-left (drop 4 bytes) (omega (arith, length-drop 4 bytes)))) ∙
+    chunk-forth 4 0 bytes b (f .body-is) (f .kind-is) (omega arith)
 
 -- an image
 pub image-forth : (bytes : List ℕ) {i : Image} → Below 256 bytes → imageOf bytes ≡ ok i → bytesOf i ≡ bytes
@@ -202,6 +195,6 @@ image-forth bytes {i} b e =
     let k = segments-count _ _ _ _ (f .segments-is) in
     let l = domains-count _ _ _ (f .domains-is) in
     ap bytesOf (sym (f .is)) ∙
-    (λ j. headBytes (record { start = f .head .value .start; segments = k j; domains = l j }) ++ (segmentsBytes (f .segments .value) ++ (domainsBytes (f .domains .value) ++ end-forth (f .domains .rest) (d .below) (f .end-is) j))) ∙
+    (λ j. headBytes (record { start = f .head .value .start; segments = k j; domains = l j }) ++ (segmentsBytes (f .segments .value) ++ (domainsBytes (f .domains .value) ++ end-forth (f .domains .rest) (d .below) (end-facts (f .domains .rest) (f .end-is) (f .none-left)) j))) ∙
     ap (λ (ys : List ℕ). headBytes (f .head .value) ++ (segmentsBytes (f .segments .value) ++ ys)) (d .is) ∙
     ap (λ (ys : List ℕ). headBytes (f .head .value) ++ ys) (s .is) ∙ head-forth bytes b h

@@ -16,10 +16,11 @@ use Rattle.state.specs.declared.record.Registers.{Registers}
 use Rattle.state.specs.declared.record.Machine.{Machine}
 use Rattle.state.specs.Bases.{wordsIn}
 use Rattle.state.specs.Record.{noPointer, noCapability, noFrame}
-use Rattle.layout_soundness.specs.SoundLayout.{allFrom, between, layoutTest, segmentTest, stackTest, rightsTest, startTest}
+use Rattle.layout_soundness.specs.SoundLayout.{allFrom, between, layoutTest, rangesTest, segmentTest, stackTest, rightsTest, startTest}
 use Rattle.soundness.specs.Sound.{registersTest, pointerTest, pointersTest, capabilityTest, emptyCapability, emptyFrame, frameTest, framesTest, soundTest}
 use Rattle.layout_soundness.proofs.Tests.{both, join, bounds, inside, then-part, else-part, either-part}
 use Rattle.layout_soundness.proofs.All.{each, all}
+use Rattle.layout_soundness.proofs.Gates.{GatesSound, gates-facts, facts-gates}
 
 pub record RegistersSound (domains : ℕ) (r : Registers) : Type 0 where
   pub domain : r .domain < domains
@@ -150,7 +151,7 @@ facts-frames domains depth fs s =
 
 -- rows past the counts are zero, so most bounds hold of every row
 pub record LayoutSound (l : Layout) : Type 0 where
-  pub tested : layoutTest l ≡ true
+  pub tested : rangesTest l ≡ true
   pub some-segments : 1 ≤ l .segments
   pub segments : l .segments ≤ 16
   pub some-domains : 1 ≤ l .domains
@@ -223,8 +224,8 @@ rightsAt l i = rightsTest (l .segments) (l .domains) i (getD (l .rights) i 0)
 abbrev RowAt : Layout → ℕ → Type 0
 RowAt l i = RowSound (l .segments) (l .domains) i (getD (l .lengths) i 0) (getD (l .gates) i 0) (getD (l .gatedomains) i 0)
 
-pub layout-facts : (l : Layout) → layoutTest l ≡ true → LayoutSound l
-unfolding layoutTest startTest
+pub layout-facts : (l : Layout) → rangesTest l ≡ true → LayoutSound l
+unfolding rangesTest startTest
 layout-facts l e =
     let t = both (between 1 16 (l .segments)) _ e in
     let u = both (between 1 8 (l .domains)) _ (t .1) in
@@ -258,18 +259,20 @@ layout-facts l e =
 
 pub record Sound (m : Machine) : Type 0 where
   pub layout : LayoutSound (m .layout)
+  pub gates : GatesSound (m .layout .gates) (m .layout .gatedomains) (m .layout .rights)
   pub registers : RegistersSound (m .layout .domains) (m .registers)
   pub pointers : PointersSound (m .pointers)
   pub frames : FramesSound (m .layout .domains) (m .depth) (m .frames)
 
 pub sound-facts : (m : Machine) → soundTest m ≡ true → Sound m
-unfolding soundTest
+unfolding soundTest layoutTest
 sound-facts m e =
     let t = both (layoutTest (m .layout)) _ e in
+    let l = both (rangesTest (m .layout)) _ (t .0) in
     let u = both (registersTest (m .layout .domains) (m .registers)) _ (t .1) in
     let v = both (pointersTest (m .pointers)) _ (u .1) in
-    record { layout = layout-facts _ (t .0); registers = registers-facts _ _ (u .0); pointers = pointers-facts _ (v .0); frames = frames-facts _ _ _ (v .1) }
+    record { layout = layout-facts _ (l .0); gates = gates-facts _ _ _ (l .1); registers = registers-facts _ _ (u .0); pointers = pointers-facts _ (v .0); frames = frames-facts _ _ _ (v .1) }
 
 pub facts-sound : (m : Machine) → Sound m → soundTest m ≡ true
-unfolding soundTest
-facts-sound m s = join (s .layout .tested) (join (facts-registers _ _ (s .registers)) (join (facts-pointers _ (s .pointers)) (facts-frames _ _ _ (s .frames))))
+unfolding soundTest layoutTest
+facts-sound m s = join (join (s .layout .tested) (facts-gates _ _ _ (s .gates))) (join (facts-registers _ _ (s .registers)) (join (facts-pointers _ (s .pointers)) (facts-frames _ _ _ (s .frames))))

@@ -6,10 +6,10 @@ use mathlib.Core.Bool.{true, false}
 use borrow.Author.Tests.{le-leb}
 use lib.ListN.{replicate, set}
 use Rattle.state.specs.Record.{noPointer, freeFrame}
-use Rattle.layout_soundness.specs.SoundLayout.{allFrom}
+use Rattle.layout_soundness.specs.SoundLayout.{allFrom, rangesTest, layoutTest}
 use Rattle.soundness.specs.Sound.{pointerTest, pointersTest, emptyCapability, emptyPointer, emptyFrame, framesTest, soundTest}
 use Rattle.fresh.specs.Fresh.{freshOf}
-use Rattle.layout_soundness.proofs.Tests.{join}
+use Rattle.layout_soundness.proofs.Tests.{both, join}
 use Rattle.soundness.proofs.Facts.{layout-facts, facts-registers}
 use Rattle.soundness.specs.Statements.{FreshSound}
 
@@ -26,9 +26,9 @@ unfolding framesTest emptyFrame emptyPointer emptyCapability allFrom
 no-frames domains = refl
 
 pub fresh-sound : FreshSound
-unfolding freshOf soundTest
+unfolding freshOf soundTest layoutTest
 fresh-sound l e =
-    let f = layout-facts l e in
+    let f = layout-facts l (both (rangesTest l) _ e .0) in
     join e
     (join (facts-registers _ _ (record { domain = f .start-domain; segment = omega arith; word = omega arith }))
     (join (stack-pointer _ (omega (arith, f .stacks (l .start .domain) (omega arith)))) (no-frames (l .domains))))

@@ -1,4 +1,4 @@
--- When a machine record is sound (well-formed): every number is in its range, whatever is named exists, and unused rows are zero.
+-- When a machine record is sound (well-formed): every number is in its range, whatever is named exists, no gate is dead, and unused rows are zero.
 use Prim.Native.Nat.{ℕ, _+_}
 use mathlib.Core.Bool.{Bool, not, _&&_, _||_}
 use mathlib.Core.List.{List}

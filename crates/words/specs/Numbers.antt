@@ -37,6 +37,10 @@ outputTooShort = 8
 abbrev pub notSound : ℕ
 notSound = 9
 
+-- a gate whose domain lacks E
+abbrev pub deadGate : ℕ
+deadGate = 10
+
 -- no such segment or word
 abbrev pub noWord : ℕ
 noWord = 21

@@ -1,14 +1,15 @@
 -- `image_reader::judge::end` meets its contract.
 use Prim.Native.Nat.{ℕ, _+_, _≤_}
 use native.Mathlib.Omega.{arith}
+use mathlib.Core.Bool.{Bool}
 use mathlib.Core.Path.{_≡_, sym, _∙_}
-use borrow.Author.Tests.{ne-eqb, eq-eqb}
+use borrow.Author.Tests.{ne-eqb, eq-eqb, not-true, not-false}
 use lib.ListN.{length, drop, length-drop}
 use Rattle.words.specs.Answer.{ok}
 use Rattle.image_format.specs.Chunk.{chunkAt, chunkOf, exactly}
-use Rattle.image_format.specs.Image.{endOf}
 use Rattle.image_format.proofs.Chunks.{exact-room}
 use borrow.Author.Needs.{needs}
+use Rattle.image_reader.specs.Private.{endOf}
 use Rattle.image_reader.proofs.judge.end.Statement.{statement}
 use Rattle.image_reader.proofs.judge.end.Tie as tie
 
@@ -39,19 +40,30 @@ rest c =
 abbrev left-after : tie.After-left → ℕ
 left-after c = let a = c .before .before .before .before .before .args in length (drop 4 (drop (a .at) (a .image .now)))
 
+abbrev pass-is : tie.After-left → Bool
+pass-is c = c .before .before .before .before .before .args .pass
+
 returns : tie.Need-returns
 unfolding endOf
-returns c = simp (found (c .before .before), ne-eqb (left-after (c .before)) 0 (λ z. c .if1 .taken (omega (arith, rest (c .before) .1, z))))
+returns c = simp (found (c .before .before), not-true (pass-is (c .before)) (c .if1 .taken))
 
 returns-2 : tie.Need-returns-2
 unfolding endOf
-returns-2 c = simp (← c .before .before .before .exact .ensures, c .before .n .given .1)
+returns-2 c =
+    let l = c .before .before in
+    simp (found (l .before), not-false (pass-is l) (c .before .if1 .left), ne-eqb (left-after l) 0 (λ z. c .if2 .taken (omega (arith, rest l .1, z))))
 
 returns-3 : tie.Need-returns-3
 unfolding endOf
-returns-3 c = simp (found (c .before .before), eq-eqb (left-after (c .before)) 0 (omega (arith, rest (c .before) .1, c .if1 .left)))
+returns-3 c = simp (← c .before .before .before .exact .ensures, c .before .n .given .1)
+
+returns-4 : tie.Need-returns-4
+unfolding endOf
+returns-4 c =
+    let l = c .before .before in
+    simp (found (l .before), not-false (pass-is l) (c .before .if1 .left), eq-eqb (left-after l) 0 (omega (arith, rest l .1, c .if2 .left)))
 
 pub end-spec : {M : Type 1} → statement M
 end-spec =
     tie.close
-    (tie.spec exact-requires enum-known-n enum-told left-requires returns returns-2 returns-3)
+    (tie.spec exact-requires enum-known-n enum-told left-requires returns returns-2 returns-3 returns-4)
