@@ -1,0 +1,4 @@
+pub mod DeadGates
+pub mod HeldGates
+pub mod Fetches
+pub mod Worked
