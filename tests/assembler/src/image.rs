@@ -87,6 +87,19 @@ impl ImageBuilder {
         self
     }
 
+    /// How many gates a segment has, and the domain they lead into.
+    pub fn gates_of(&self, segment: u8) -> (u16, u8) {
+        let part = &self.segments[usize::from(segment)];
+        (part.gate_count, part.gate_domain)
+    }
+
+    /// A domain's rights on a segment.
+    pub fn rights_of(&self, domain: u8, segment: u8) -> u8 {
+        let mut rights = self.domains[usize::from(domain)].rights.iter().rev();
+        let last = rights.find(|&&(on, _)| on == segment);
+        last.map_or(0, |&(_, flags)| flags)
+    }
+
     /// Changes a word of a segment.
     pub fn set(&mut self, segment: u8, word: u32, value: impl Into<u32>) -> &mut ImageBuilder {
         self.segments[usize::from(segment)].words[word as usize] = value.into();

@@ -11,11 +11,22 @@ pub enum Kind {
     MidRun,
     /// Sound, reachable or not.
     Sound,
-    /// With garbage, mostly not sound.
+    /// Sound but for a dead gate.
+    DeadGate,
+    /// With other garbage, mostly not sound.
     Garbage,
     /// Of fewer than 919 bytes.
     Short,
 }
+
+/// All kinds, in order.
+pub const KINDS: [Kind; 5] = [
+    Kind::MidRun,
+    Kind::Sound,
+    Kind::DeadGate,
+    Kind::Garbage,
+    Kind::Short,
+];
 
 /// Counts of answers: 0 for an index, else the number of the refusal.
 #[derive(Clone, Debug, Default)]
@@ -55,17 +66,28 @@ impl Answers {
 
 impl fmt::Display for Answers {
     fn fmt(&self, f: &mut fmt::Formatter<'_>) -> fmt::Result {
-        const KINDS: [Kind; 4] = [Kind::MidRun, Kind::Sound, Kind::Garbage, Kind::Short];
-        writeln!(f, "answer     mid run      sound    garbage      short")?;
+        write!(f, "{:<7}", "answer")?;
+        for name in ["mid run", "sound", "dead gate", "garbage", "short"] {
+            write!(f, "{name:>11}")?;
+        }
+        writeln!(f)?;
         for number in [0, 8, 9, 21, 22, 24, 25] {
             let name = match number {
                 0 => "index".to_string(),
                 _ => number.to_string(),
             };
-            let [a, b, c, d] = KINDS.map(|kind| self.sum(|n, k| (n, k) == (number, kind)));
-            writeln!(f, "{name:<7}{a:>11}{b:>11}{c:>11}{d:>11}")?;
+            let counts = KINDS.map(|kind| self.sum(|n, k| (n, k) == (number, kind)));
+            row(f, &name, counts)?;
         }
-        let [a, b, c, d] = KINDS.map(|kind| self.of_kind(kind));
-        writeln!(f, "all    {a:>11}{b:>11}{c:>11}{d:>11}")
+        row(f, "all", KINDS.map(|kind| self.of_kind(kind)))
     }
+}
+
+/// A line of counts, one for each kind.
+fn row(f: &mut fmt::Formatter<'_>, name: &str, counts: [u64; KINDS.len()]) -> fmt::Result {
+    write!(f, "{name:<7}")?;
+    for count in counts {
+        write!(f, "{count:>11}")?;
+    }
+    writeln!(f)
 }

@@ -28,16 +28,25 @@ pub fn compare_checks(seed: u64, count: u64) -> Result<Answers, String> {
     Ok(answers)
 }
 
-/// A record of one of the four kinds; some have bytes after it.
+/// A record of one of the kinds; some have bytes after it.
 fn record(rng: &mut Rng) -> (Kind, Lent) {
     let (kind, mut lent) = match rng.below(20) {
         0..=7 => (Kind::MidRun, lent::mid_run(rng)),
         8..=15 => (Kind::Sound, lent::sound(rng)),
-        16..=18 => (Kind::Garbage, lent::garbage(rng)),
+        16..=18 => no_sound(rng),
         _ => return (Kind::Short, lent::short(rng)),
     };
     lent.bytes.extend(vec![0xEE; rng.pick(&[0, 0, 0, 1, 40])]);
     (kind, lent)
+}
+
+/// A record with garbage; some are sound but for a dead gate.
+fn no_sound(rng: &mut Rng) -> (Kind, Lent) {
+    let lent = lent::garbage(rng);
+    match lent::is_dead_gate_alone(&lent.bytes) {
+        true => (Kind::DeadGate, lent),
+        false => (Kind::Garbage, lent),
+    }
 }
 
 /// The answer of both implementations; the record stays.

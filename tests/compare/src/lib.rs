@@ -15,7 +15,7 @@ mod references;
 pub mod runs;
 mod state;
 
-pub use answers::{Answers, Kind};
+pub use answers::{Answers, Kind, KINDS};
 pub use checks::compare_checks;
 pub use cpu_time::cpu_time;
 pub use references::Reference;

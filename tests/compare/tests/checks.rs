@@ -1,6 +1,6 @@
 //! The proved checks and the reference implementation's give the same answers.
 
-use compare::{compare_checks, Kind};
+use compare::{compare_checks, KINDS};
 
 #[test]
 fn the_checks_agree() {
@@ -12,7 +12,7 @@ fn the_checks_agree() {
             "few of {number}\n{answers}"
         );
     }
-    for kind in [Kind::MidRun, Kind::Sound, Kind::Garbage, Kind::Short] {
+    for kind in KINDS {
         assert!(answers.of_kind(kind) >= 500, "few of {kind:?}\n{answers}");
     }
 }

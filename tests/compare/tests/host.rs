@@ -17,11 +17,15 @@ fn the_calls_of_a_host_agree() {
     for (call, numbers) in [
         (Call::Segment, &[0, 7, 8, 9, 21][..]),
         (Call::Restart, &[0, 8, 9]),
-        (Call::Entry, &[0, 1, 2, 3, 4, 5, 6, 8]),
+        (Call::Entry, &[0, 1, 2, 3, 4, 5, 6, 8, 10]),
     ] {
         for &number in numbers {
             let few = tally.of(call, number) < 30;
             assert!(!few, "few of {call:?} that give {number}\n{tally}");
         }
+    }
+    for call in [Call::Segment, Call::Restart] {
+        let few = tally.dead_gates(call) < 30;
+        assert!(!few, "few of {call:?} with a dead gate\n{tally}");
     }
 }

@@ -1,6 +1,7 @@
 //! The proved reader and writer of images and the reference's give the same.
 
 use compare::images::{samples, Call, Comparison, Sample};
+use generator::DEAD_GATES;
 
 /// A fixed batch: the short images with their prefixes, some of them with
 /// each byte changed, and some hundreds of generated images and records.
@@ -22,7 +23,7 @@ fn the_reader_and_the_writer_agree() {
     let mut all = Comparison::new(7).unwrap_or_else(|missing| panic!("{missing}"));
     batch(&mut all).unwrap_or_else(|difference| panic!("{difference}"));
     let tally = &all.tally;
-    for number in 0..=8 {
+    for number in (0..=8).chain([10]) {
         let few = tally.of(Call::Read, number) < 30;
         assert!(!few, "few reads that give {number}\n{tally}");
     }
@@ -30,6 +31,11 @@ fn the_reader_and_the_writer_agree() {
         let few = tally.of(Call::Write, number) < 20;
         assert!(!few, "few writes that give {number}\n{tally}");
     }
+    for made in DEAD_GATES {
+        let few = tally.dead_gates.of(made) < 10;
+        assert!(!few, "few of {made:?}\n{tally}");
+    }
+    assert!(tally.dead_writes >= 40, "few writes of dead gates\n{tally}");
 }
 
 #[test]

@@ -31,6 +31,7 @@ fn the_logs_agree() {
     }
     let short_records = tally.of(8) - tally.short_logs;
     assert!(short_records >= 200 && tally.short_logs >= 200, "{tally}");
+    assert!(tally.dead_gates >= 100, "dead gates\n{tally}");
 }
 
 /// A pair of sound machines, with a log that is long enough.
@@ -85,6 +86,6 @@ fn totals_that_a_refusal_leaves_are_compared() {
 #[test]
 fn what_was_never_reached_is_named() {
     let missing = Tally::default().missing();
-    assert_eq!(missing.len(), 13, "{missing:?}");
+    assert_eq!(missing.len(), 14, "{missing:?}");
     assert!(missing.contains(&"logs with lines: 10 or more".to_string()));
 }

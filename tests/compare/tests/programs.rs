@@ -51,10 +51,10 @@ fn another_text_or_status_is_a_difference() {
 #[test]
 fn what_was_never_reached_is_named() {
     let mut tally = Tally::default();
-    assert_eq!(tally.missing().len(), 11, "{:?}", tally.missing());
+    assert_eq!(tally.missing().len(), 12, "{:?}", tally.missing());
     tally.add("call 7 0 15 4095\nreturn 0 7 3 12\ncalls 1 returns 1\n");
     tally.add("refused 6\n");
     assert_eq!((tally.digits, tally.of(6)), ([0, 1, 0, 1], 1));
     assert_eq!((tally.high_segments, tally.longest, tally.total), (1, 3, 2));
-    assert_eq!(tally.missing().len(), 7, "{:?}", tally.missing());
+    assert_eq!(tally.missing().len(), 8, "{:?}", tally.missing());
 }

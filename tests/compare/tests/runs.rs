@@ -2,7 +2,7 @@
 
 use compare::runs::{code, kind, number, Call, Comparison, Kind};
 use compare::{library, Pair, State};
-use generator::{lent, Rng};
+use generator::{lent, Rng, DEAD_GATES, REFUSALS};
 
 /// A fixed batch of a few thousand images and records.
 fn batch(all: &mut Comparison) -> Result<(), String> {
@@ -23,9 +23,17 @@ fn the_runs_agree() {
     for (number, count) in (21..).zip(reached.faults) {
         assert!(count >= 20, "few of fault {number}\n{tally}");
     }
-    for (number, count) in (1..).zip(reached.refusals) {
+    let fetches = reached.fetches_without_execute;
+    assert!(fetches >= 100, "few fetches that gave 22\n{tally}");
+    for (number, count) in REFUSALS.iter().zip(reached.refusals) {
         assert!(count >= 50, "few of refusal {number}\n{tally}");
     }
+    for made in DEAD_GATES {
+        let few = reached.dead_gates.of(made) < 10;
+        assert!(!few, "few of {made:?}\n{tally}");
+    }
+    let few = tally.dead_gates.iter().any(|&count| count < 20);
+    assert!(!few, "few calls on a record with a dead gate\n{tally}");
     for (n, count) in reached.calls.iter().enumerate() {
         assert!(*count >= 100, "few calls with {n} arguments\n{tally}");
     }

@@ -1,11 +1,19 @@
 //! Images with damaged bytes, most of which the reader refuses.
 
 use crate::random::Rng;
-use crate::{call_tree, templates};
+use crate::{call_tree, dead_gates, templates, Made};
 use assembler::{chunk, ImageBuilder, E};
 
+/// An image with some damage, or with changed gates.
+pub fn damaged(rng: &mut Rng) -> Made {
+    match rng.below(9) {
+        0 => dead_gates::build(rng),
+        _ => damaged_bytes(rng).into(),
+    }
+}
+
 /// An image with some damage.
-pub fn damaged(rng: &mut Rng) -> Vec<u8> {
+fn damaged_bytes(rng: &mut Rng) -> Vec<u8> {
     let image = match rng.below(3) {
         0 => templates::counting_loop(rng),
         1 => templates::two_sources(rng),

@@ -2,12 +2,17 @@
 
 use crate::random::Rng;
 use crate::records::{self, Snapshot};
+use assembler::E;
 use reference::record::{Capability, Frame, Machine, CAPABILITIES, DOMAINS, FRAMES, SEGMENTS};
 use reference::words::Pointer;
-use reference::{record_bytes, RECORD_BYTES};
+use reference::{machine_from_bytes, record_bytes, Refusal, RECORD_BYTES};
 use std::ops::Range;
 
-/// Where the pointers, frames and their parts lie in a record.
+/// Where the gates, the rights, the pointers, frames and their parts lie in a
+/// record.
+const GATES: usize = 32;
+const GATE_DOMAINS: usize = 68;
+const RIGHTS: usize = 92;
 const POINTERS: usize = 230;
 const FRAME_ROWS: usize = 263;
 const FRAME_BYTES: usize = 82;
@@ -41,8 +46,69 @@ pub fn sound(rng: &mut Rng) -> Lent {
     records::sound(rng).into()
 }
 
-/// 919 bytes of which most are no sound record.
+/// A record that is sound but for a dead gate: a segment has gates whose domain
+/// lacks E on it. About half are otherwise as a run left them.
+pub fn dead_gate(rng: &mut Rng) -> Lent {
+    let ways = [take_execute, raise_a_count, lead_elsewhere];
+    loop {
+        let make = rng.pick(&[mid_run as fn(&mut Rng) -> Lent, sound]);
+        let mut lent = make(rng);
+        rng.pick(&ways)(rng, &lent.machine, &mut lent.bytes);
+        if is_dead_gate_alone(&lent.bytes) {
+            return lent;
+        }
+    }
+}
+
+/// Takes E from the domain of a segment's gates, or gives it other rights.
+fn take_execute(rng: &mut Rng, machine: &Machine, bytes: &mut [u8]) {
+    let segment = rng.below(u32::from(machine.segment_count)) as usize;
+    let domain = machine.segments[segment].gate_domain;
+    let rights = &mut bytes[rights_at(domain, segment)];
+    *rights = rng.pick(&[*rights, *rights, 0, 15]) & !E;
+}
+
+/// Gives a segment one gate, or as many as it has words.
+fn raise_a_count(rng: &mut Rng, machine: &Machine, bytes: &mut [u8]) {
+    let segment = rng.below(u32::from(machine.segment_count)) as usize;
+    let count = rng.pick(&[1, machine.segments[segment].length]);
+    bytes[GATES + 2 * segment..][..2].copy_from_slice(&count.to_le_bytes());
+}
+
+/// Leads the gates of a segment into any domain.
+fn lead_elsewhere(rng: &mut Rng, machine: &Machine, bytes: &mut [u8]) {
+    let segment = rng.below(u32::from(machine.segment_count)) as usize;
+    bytes[GATE_DOMAINS + segment] = rng.below(u32::from(machine.domain_count)) as u8;
+}
+
+/// Where a record has a domain's rights on a segment.
+fn rights_at(domain: u8, segment: usize) -> usize {
+    RIGHTS + SEGMENTS * usize::from(domain) + segment
+}
+
+/// Whether bytes are no sound record for dead gates alone: they are one once
+/// the domain of each segment's gates has E on it.
+pub fn is_dead_gate_alone(bytes: &[u8]) -> bool {
+    if machine_from_bytes(bytes) != Err(Refusal::NotSound) {
+        return false;
+    }
+    let mut mended = bytes.to_vec();
+    for segment in 0..SEGMENTS {
+        let has_gates = bytes[GATES + 2 * segment..][..2] != [0, 0];
+        let domain = bytes[GATE_DOMAINS + segment];
+        if has_gates && usize::from(domain) < DOMAINS {
+            mended[rights_at(domain, segment)] |= E;
+        }
+    }
+    machine_from_bytes(&mended).is_ok()
+}
+
+/// 919 bytes of which most are no sound record; a quarter are one but for a
+/// dead gate.
 pub fn garbage(rng: &mut Rng) -> Lent {
+    if rng.chance(25) {
+        return dead_gate(rng);
+    }
     let mut lent = sound(rng);
     let bytes = &mut lent.bytes;
     match rng.below(20) {

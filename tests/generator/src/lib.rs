@@ -3,6 +3,7 @@
 mod call_loop;
 mod call_tree;
 mod damage;
+mod dead_gates;
 mod far_gates;
 pub mod lent;
 mod mutate;
@@ -13,26 +14,52 @@ mod subsystem;
 mod templates;
 mod trouble;
 
+pub use dead_gates::{DeadGate, DeadGates, DEAD_GATES};
 pub use random::Rng;
-pub use reached::Reached;
+pub use reached::{Reached, REFUSALS};
 
 use assembler::ImageBuilder;
 
 /// Instructions that the generator's own runs allow.
 pub const LIMIT: u16 = 1000;
 
-/// The image of a seed and an index, as bytes; some are damaged.
-pub fn image(seed: u64, index: u64) -> Vec<u8> {
-    let mut rng = Rng::new(seed, index);
-    if rng.chance(9) {
-        return damage::damaged(&mut rng);
+/// An image as bytes, and what was done to its gates, if that was on purpose.
+#[derive(Clone, Debug)]
+pub struct Made {
+    pub bytes: Vec<u8>,
+    pub dead_gate: Option<DeadGate>,
+}
+
+impl From<Vec<u8>> for Made {
+    fn from(bytes: Vec<u8>) -> Made {
+        let dead_gate = None;
+        Made { bytes, dead_gate }
     }
-    program(&mut rng).bytes()
+}
+
+/// The image of a seed and an index; some are damaged or have changed gates.
+pub fn made(seed: u64, index: u64) -> Made {
+    let mut rng = Rng::new(seed, index);
+    match rng.below(100) {
+        0..=8 => damage::damaged(&mut rng),
+        9..=13 => dead_gates::build(&mut rng),
+        _ => program(&mut rng).bytes().into(),
+    }
+}
+
+/// The bytes of the same.
+pub fn image(seed: u64, index: u64) -> Vec<u8> {
+    made(seed, index).bytes
 }
 
 /// A damaged image of a seed and an index; the reader refuses most of them.
-pub fn damaged_image(seed: u64, index: u64) -> Vec<u8> {
+pub fn made_damaged(seed: u64, index: u64) -> Made {
     damage::damaged(&mut Rng::new(seed, index))
+}
+
+/// The bytes of the same.
+pub fn damaged_image(seed: u64, index: u64) -> Vec<u8> {
+    made_damaged(seed, index).bytes
 }
 
 /// An image that the reader accepts.
@@ -50,6 +77,9 @@ pub fn program(rng: &mut Rng) -> ImageBuilder {
     };
     if rng.chance(14) {
         mutate::mutate(rng, &mut image);
+    }
+    if rng.chance(3) {
+        mutate::start_without_execute(rng, &mut image);
     }
     image
 }

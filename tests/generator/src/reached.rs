@@ -1,5 +1,7 @@
 //! What a batch of images reached when the reference ran them.
 
+use crate::records::fetch_check;
+use crate::DeadGates;
 use reference::record::{ARGUMENT_POINTER, SEGMENTS};
 use reference::words::{Instruction, OPCODES};
 use reference::{read_image, Completed, Ending, Fault, Machine, Processor, Refusal, Run};
@@ -10,6 +12,9 @@ const BORDERS: [u32; 8] = [0, 4, 9, 19, 49, 99, 499, 65_535];
 
 /// Upper borders of the histogram of crossings per run.
 const CROSSINGS: [u32; 5] = [0, 1, 9, 99, 65_535];
+
+/// Numbers that the reader of an image refuses it with.
+pub const REFUSALS: [u8; 7] = [1, 2, 3, 4, 5, 6, 10];
 
 /// Counts over a batch.
 #[derive(Clone, Debug, Default)]
@@ -22,8 +27,12 @@ pub struct Reached {
     /// Faults by opcode; the last row is for words that are no instruction
     /// or could not be fetched.
     pub faults_at: [[u64; 12]; 14],
-    /// Refusals 1 to 6.
-    pub refusals: [u64; 6],
+    /// Fetches that gave 22.
+    pub fetches_without_execute: u64,
+    /// Images by what was done to their gates.
+    pub dead_gates: DeadGates,
+    /// Refusals, by their places in `REFUSALS`.
+    pub refusals: [u64; REFUSALS.len()],
     pub halted: u64,
     pub spent: u64,
     /// Stretches that ended after a crossing.
@@ -67,11 +76,11 @@ impl Reached {
         Ok((machine, run))
     }
 
-    /// Counts an image by the number that its reader gave, 0 to 6.
+    /// Counts an image by the number that its reader gave.
     pub fn count_read(&mut self, number: u8) {
         self.images += 1;
-        if let Some(refusal) = usize::from(number).checked_sub(1) {
-            self.refusals[refusal] += 1;
+        if let Some(place) = REFUSALS.iter().position(|&refusal| refusal == number) {
+            self.refusals[place] += 1;
         }
     }
 
@@ -139,8 +148,10 @@ impl Reached {
         let address = first_words[usize::from(at.segment)] + usize::from(at.word);
         let word = processor.memory().get(address).copied().unwrap_or(0);
         let pointers = processor.machine().pointers;
+        let fetch = fetch_check(processor.machine());
+        self.fetches_without_execute += u64::from(fetch == Err(Fault::FlagMissing));
         let outcome = processor.step();
-        let Ok(instruction) = Instruction::from_word(word) else {
+        let Ok(instruction) = fetch.and_then(|()| Instruction::from_word(word)) else {
             self.count_fault(outcome.err(), 13);
             return outcome;
         };
@@ -182,6 +193,17 @@ impl Reached {
         let tagged = words.iter().step_by(2).filter(|&word| word >> 31 == 1);
         self.passed_on += tagged.count() as u64;
     }
+
+    /// Lines about calls, returns and arguments.
+    fn print_calls(&self, out: &mut fmt::Formatter) -> fmt::Result {
+        row(out, "crossing calls by arguments", 0.., &self.calls)?;
+        row(out, "runs by most frames in use", 0.., &self.frames)?;
+        writeln!(out, "calls inside a domain {}", self.calls_inside)?;
+        writeln!(out, "calls with a tagged a {}", self.relayed_calls)?;
+        writeln!(out, "tagged returns {}", self.tagged_returns)?;
+        writeln!(out, "passed-on arguments {}", self.passed_on)?;
+        writeln!(out, "tagged indirect reads {}", self.tagged_indirect)
+    }
 }
 
 /// Where each segment begins in the memory.
@@ -208,18 +230,15 @@ impl fmt::Display for Reached {
         for (opcode, count) in OPCODES.iter().zip(self.completed) {
             writeln!(out, "  {:5} {count}", name(*opcode as usize))?;
         }
-        row(out, "faults", 21, &self.faults)?;
+        row(out, "faults", 21.., &self.faults)?;
         for (opcode, counts) in self.faults_at.iter().enumerate() {
-            row(out, &format!("  faults at {}", name(opcode)), 21, counts)?;
+            row(out, &format!("  faults at {}", name(opcode)), 21.., counts)?;
         }
-        row(out, "refusals", 1, &self.refusals)?;
-        row(out, "crossing calls by arguments", 0, &self.calls)?;
-        row(out, "runs by most frames in use", 0, &self.frames)?;
-        writeln!(out, "calls inside a domain {}", self.calls_inside)?;
-        writeln!(out, "calls with a tagged a {}", self.relayed_calls)?;
-        writeln!(out, "tagged returns {}", self.tagged_returns)?;
-        writeln!(out, "passed-on arguments {}", self.passed_on)?;
-        writeln!(out, "tagged indirect reads {}", self.tagged_indirect)?;
+        let fetches = self.fetches_without_execute;
+        writeln!(out, "fetches that gave 22 {fetches}")?;
+        row(out, "refusals", REFUSALS, &self.refusals)?;
+        write!(out, "{}", self.dead_gates)?;
+        self.print_calls(out)?;
         writeln!(out, "matches failed by source {}", self.faults[4])?;
         up_to(
             out,
@@ -255,9 +274,14 @@ fn up_to(out: &mut fmt::Formatter, title: &str, borders: &[u32], counts: &[u64])
 }
 
 /// A line of counts, each under its number.
-fn row(out: &mut fmt::Formatter, title: &str, first: usize, counts: &[u64]) -> fmt::Result {
+fn row(
+    out: &mut fmt::Formatter,
+    title: &str,
+    numbers: impl IntoIterator<Item = u8>,
+    counts: &[u64],
+) -> fmt::Result {
     write!(out, "{title}:")?;
-    for (number, count) in (first..).zip(counts) {
+    for (number, count) in numbers.into_iter().zip(counts) {
         write!(out, " {number}: {count}")?;
     }
     writeln!(out)

@@ -2,9 +2,11 @@
 
 use crate::program;
 use crate::random::Rng;
+use assembler::E;
+use reference::checks::{static_check, Flag};
 use reference::record::{Capability, Frame, Machine, CAPABILITIES, FRAMES};
 use reference::words::Pointer;
-use reference::{read_image, run, MEMORY_WORDS};
+use reference::{is_sound, read_image, run, Fault, MEMORY_WORDS};
 
 /// A machine with its memory.
 #[derive(Clone, Debug)]
@@ -34,6 +36,9 @@ pub fn mid_run(rng: &mut Rng) -> Snapshot {
 /// A sound record that need not be one that a run can reach: a mid-run one
 /// with some fields changed inside their ranges.
 pub fn sound(rng: &mut Rng) -> Snapshot {
+    if rng.chance(4) {
+        return cannot_execute(rng);
+    }
     let mut snapshot = mid_run(rng);
     let machine = &mut snapshot.machine;
     for _ in 0..rng.between(1, 4) {
@@ -42,14 +47,48 @@ pub fn sound(rng: &mut Rng) -> Snapshot {
     snapshot
 }
 
+/// A mid-run record but for one change, after which its domain lacks E where it
+/// stands: another domain, another place, or E taken.
+pub fn cannot_execute(rng: &mut Rng) -> Snapshot {
+    loop {
+        let mut snapshot = mid_run(rng);
+        let machine = &mut snapshot.machine;
+        match rng.below(3) {
+            0 => machine.domain = rng.below(u32::from(machine.domain_count)) as u8,
+            1 => change_location(rng, machine),
+            _ => take_execute(machine),
+        }
+        if is_sound(machine) && fetch_check(machine) == Err(Fault::FlagMissing) {
+            return snapshot;
+        }
+    }
+}
+
+/// Takes E from the executing domain where it stands.
+fn take_execute(machine: &mut Machine) {
+    let rights = &mut machine.domains[usize::from(machine.domain)].rights;
+    rights[usize::from(machine.location.segment)] &= !E;
+}
+
+/// The check that the next fetch makes.
+pub(crate) fn fetch_check(machine: &Machine) -> Result<(), Fault> {
+    let at = machine.location;
+    static_check(machine, machine.domain, at.segment, at.word, Flag::Execute)
+}
+
 /// Changes one thing inside its range.
 fn change_in_range(rng: &mut Rng, machine: &mut Machine) {
     let domains = u32::from(machine.domain_count);
     let segments = u32::from(machine.segment_count);
     match rng.below(7) {
         0 => {
-            let row = &mut machine.domains[rng.below(domains) as usize];
-            row.rights[rng.below(segments) as usize] = rng.below(16) as u8;
+            let domain = rng.below(domains) as u8;
+            let segment = rng.below(segments) as usize;
+            let row = machine.segments[segment];
+            let executes = row.gate_count > 0 && row.gate_domain == domain;
+            let kept = if executes { E } else { 0 };
+            let rights = &mut machine.domains[usize::from(domain)].rights;
+            rights[segment] = rng.below(16) as u8 | kept;
         }
         1 => {
             let register = rng.below(8) as usize;
@@ -62,13 +101,16 @@ fn change_in_range(rng: &mut Rng, machine: &mut Machine) {
             machine.frame_count += 1;
         }
         4 => machine.domain = rng.below(domains) as u8,
-        5 => {
-            let place = pointer(rng, machine);
-            machine.location.segment = place.segment;
-            machine.location.word = place.word + u16::from(place.word == 4095);
-        }
+        5 => change_location(rng, machine),
         _ => change_capability(rng, machine),
     }
+}
+
+/// Moves the location to any place.
+fn change_location(rng: &mut Rng, machine: &mut Machine) {
+    let place = pointer(rng, machine);
+    machine.location.segment = place.segment;
+    machine.location.word = place.word + u16::from(place.word == 4095);
 }
 
 /// Replaces a capability of the live frame, if there is one.

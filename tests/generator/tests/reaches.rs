@@ -1,25 +1,37 @@
 //! A batch of images must reach every part of the processor, and the records
 //! must be of the kinds they claim to be.
 
+use assembler::E;
 use generator::lent::{self, Lent};
 use generator::records::{self, Snapshot};
-use generator::{image, Reached, Rng, LIMIT};
+use generator::{image, made, made_damaged, DeadGate, DeadGates, Made};
+use generator::{Reached, Rng, DEAD_GATES, LIMIT, REFUSALS};
+use reference::record::Domain;
 use reference::words::OPCODES;
-use reference::{host, is_sound, machine_from_bytes, record_bytes, Refusal};
+use reference::{host, is_sound, machine_from_bytes, record_bytes, run, Refusal};
 
 #[test]
 fn a_batch_reaches_every_part() {
     let mut reached = Reached::default();
     let mut memory = vec![0; reference::MEMORY_WORDS];
     for index in 0..20_000 {
-        let _ = reached.observe(&image(2024, index), &mut memory, LIMIT);
+        let image = made(2024, index);
+        reached.dead_gates.add(&image);
+        let _ = reached.observe(&image.bytes, &mut memory, LIMIT);
     }
     println!("{reached}");
     for (number, count) in (21..).zip(reached.faults) {
         assert!(count >= 50, "fault {number}: {count}");
     }
-    for (number, count) in (1..).zip(reached.refusals) {
-        assert!(count >= 50, "refusal {number}: {count}");
+    let fetches = reached.fetches_without_execute;
+    assert!(fetches >= 300, "fetches that gave 22: {fetches}");
+    for (number, count) in REFUSALS.iter().zip(reached.refusals) {
+        let least = if *number == 10 { 500 } else { 50 };
+        assert!(count >= least, "refusal {number}: {count}");
+    }
+    for made in DEAD_GATES {
+        let count = reached.dead_gates.of(made);
+        assert!(count >= 50, "{made:?}: {count}");
     }
     for (opcode, count) in OPCODES.iter().zip(reached.completed) {
         assert!(count >= 1000, "{opcode:?}: {count}");
@@ -37,6 +49,107 @@ fn a_batch_reaches_every_part() {
     }
     assert!(reached.faults_after_crossing >= 1000, "crossed and faulted");
     assert!(reached.left_in_frames >= 1000, "crossed, frames in use");
+}
+
+/// What an image says of its gates.
+struct Layout {
+    /// Of each segment: how many gates, and the domain they lead into.
+    gates: Vec<(u16, usize)>,
+    /// Of each domain: its rights on each segment.
+    rights: Vec<Vec<u8>>,
+}
+
+impl Layout {
+    /// Takes apart an image whose kinds 1 to 3 are good.
+    fn new(image: &[u8]) -> Layout {
+        let pair = |at: usize| u16::from_le_bytes([image[at], image[at + 1]]);
+        let (segments, domains) = (image[4], image[5]);
+        let (mut gates, mut rights, mut at) = (Vec::new(), Vec::new(), 12);
+        for _ in 0..segments {
+            gates.push((pair(at + 4), usize::from(image[at + 6])));
+            at += 4 + usize::from(pair(at));
+        }
+        for _ in 0..domains {
+            let end = at + 4 + usize::from(pair(at));
+            rights.push(image[at + 5..end].to_vec());
+            at = end;
+        }
+        Layout { gates, rights }
+    }
+
+    /// The segments whose gate domain lacks E, with so many gates.
+    fn lacking(&self, counted: impl Fn(u16) -> bool) -> Vec<usize> {
+        let lacks = |&segment: &usize| {
+            let (count, domain) = self.gates[segment];
+            counted(count) && self.rights[domain][segment] & E == 0
+        };
+        (0..self.gates.len()).filter(lacks).collect()
+    }
+
+    /// Whether a dead gate's domain has other rights, and another domain E.
+    fn has_other_rights(&self) -> bool {
+        self.lacking(|count| count > 0).iter().any(|&segment| {
+            let own = self.rights[self.gates[segment].1][segment];
+            own != 0 && self.rights.iter().any(|row| row[segment] & E != 0)
+        })
+    }
+}
+
+/// Checks that an image is what was made of it, and gives the segments with
+/// dead gates, and how many segments there are.
+fn is_as_made(made: DeadGate, image: &[u8]) -> (Vec<usize>, usize) {
+    let read = reference::report::run_image(image, 0);
+    let number = read.map_or_else(Refusal::number, |_| 0);
+    assert_eq!(number, made.number(), "{made:?}");
+    let layout = Layout::new(image);
+    let dead = layout.lacking(|count| count > 0);
+    match made {
+        DeadGate::NoGates => {
+            assert!(dead.is_empty() && !layout.lacking(|count| count == 0).is_empty());
+        }
+        DeadGate::LaterSegment => {
+            assert!(layout.gates[0].0 > 0 && dead.len() == 1 && dead[0] > 0);
+        }
+        DeadGate::OtherRights => assert!(dead.len() == 1 && layout.has_other_rights()),
+        DeadGate::Taken | DeadGate::OtherDomain | DeadGate::CountRaised => {
+            assert_eq!(dead.len(), 1, "{made:?}");
+        }
+        DeadGate::SeveralSegments => assert!(dead.len() >= 2),
+        _ => assert!(!dead.is_empty(), "{made:?}"),
+    }
+    (dead, layout.gates.len())
+}
+
+#[test]
+fn dead_gates_are_as_they_were_made() {
+    let mut dead_gates = DeadGates::default();
+    let (mut tens, mut in_the_last, mut in_the_first) = (0, 0, 0);
+    let (mut in_two, mut in_more) = (0, 0);
+    for index in 0..20_000 {
+        let image = made_damaged(2024, index);
+        dead_gates.add(&image);
+        let Made { bytes, dead_gate } = image;
+        let Some(made) = dead_gate else { continue };
+        let (dead, segments) = is_as_made(made, &bytes);
+        let ten = made.number() == 10;
+        tens += u32::from(ten);
+        in_the_last += u32::from(dead == [segments - 1]);
+        in_the_first += u32::from(dead == [0]);
+        in_two += u32::from(ten && dead.len() == 2);
+        in_more += u32::from(ten && dead.len() > 2);
+    }
+    println!("{dead_gates}");
+    for made in DEAD_GATES {
+        assert!(dead_gates.of(made) >= 100, "{made:?}");
+    }
+    assert!(tens >= 1000, "{tens} that give 10");
+    assert!(
+        in_the_last >= 200,
+        "{in_the_last} in the last segment alone"
+    );
+    assert!(in_the_first >= 100, "{in_the_first} in the first alone");
+    assert!(in_two >= 80, "{in_two} in two segments");
+    assert!(in_more >= 50, "{in_more} in more than two");
 }
 
 #[test]
@@ -73,6 +186,25 @@ fn sound_records_are_sound_and_mostly_have_frames() {
     assert!(with_frames > 4000, "{with_frames}");
 }
 
+#[test]
+fn records_that_cannot_execute_are_sound_and_give_22() {
+    let mut rng = Rng::new(17, 0);
+    let (mut with_frames, mut others_may) = (0, 0);
+    for _ in 0..1000 {
+        let Snapshot { machine, memory } = records::cannot_execute(&mut rng);
+        let (mut left, mut words) = (machine.clone(), memory.clone());
+        let ran = run(&mut left, &mut words, 9);
+        assert_eq!(ran.map(|run| (run.ending.fault(), run.count)), Ok((22, 0)));
+        assert_eq!((&left, &words), (&machine, &memory));
+        with_frames += u32::from(machine.frame_count > 0);
+        let segment = usize::from(machine.location.segment);
+        let executes = |row: &Domain| row.rights[segment] & E != 0;
+        others_may += u32::from(machine.domains.iter().any(executes));
+    }
+    assert!(with_frames >= 500, "{with_frames}");
+    assert!((200..800).contains(&others_may), "{others_may}");
+}
+
 /// Makes each call with a record that is not sound: 9, and all stays.
 fn refused_by_all(lent: &Lent) {
     let (mut record, mut words) = (lent.bytes.clone(), lent.words.clone());
@@ -104,6 +236,42 @@ fn garbage_records_are_refused_and_left_alone() {
         }
     }
     assert!(unsound > 1500, "{unsound}");
+}
+
+#[test]
+fn records_with_a_dead_gate_are_sound_but_for_it() {
+    let mut rng = Rng::new(15, 0);
+    let mut with_frames = 0;
+    let mut changed = [0; 3];
+    for _ in 0..1000 {
+        let lent = lent::dead_gate(&mut rng);
+        assert_eq!(machine_from_bytes(&lent.bytes), Err(Refusal::NotSound));
+        refused_by_all(&lent);
+        with_frames += u32::from(lent.machine.frame_count > 0);
+        let sound = record_bytes(&lent.machine);
+        for (count, part) in changed.iter_mut().zip([32..64, 68..84, 92..220]) {
+            *count += u32::from(sound[part.clone()] != lent.bytes[part]);
+        }
+    }
+    assert!(with_frames >= 500, "{with_frames}");
+    assert_eq!(changed.iter().sum::<u32>(), 1000, "one change each");
+    assert!(changed.iter().all(|&count| count >= 100), "{changed:?}");
+    let garbage = (0..1000).map(|_| lent::garbage(&mut rng));
+    let dead = garbage.filter(|lent| lent::is_dead_gate_alone(&lent.bytes));
+    let dead = dead.count();
+    assert!((200..400).contains(&dead), "{dead}");
+}
+
+#[test]
+fn sound_records_are_not_said_to_have_dead_gates() {
+    let mut rng = Rng::new(16, 0);
+    for _ in 0..300 {
+        for lent in [lent::mid_run(&mut rng), lent::sound(&mut rng)] {
+            assert!(!lent::is_dead_gate_alone(&lent.bytes));
+        }
+        assert!(!lent::is_dead_gate_alone(&lent::short(&mut rng).bytes));
+    }
+    assert!(!lent::is_dead_gate_alone(&[0xEE; 919]));
 }
 
 #[test]

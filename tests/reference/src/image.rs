@@ -3,6 +3,7 @@
 use crate::numbers::{Fault, Refusal};
 use crate::record::{Domain, Location, Machine, Segment, DOMAINS, SEGMENTS};
 use crate::run::{accept, first_words};
+use crate::soundness::gates_sound;
 use crate::words::Pointer;
 use crate::{MEMORY_WORDS, SEGMENT_WORDS};
 
@@ -62,6 +63,7 @@ pub fn read_image(image: &[u8], machine: &mut Machine, memory: &mut [u32]) -> Re
     let bodies = read_segments(&mut chunks, &mut fresh)?;
     read_domains(&mut chunks, &mut fresh)?;
     chunks.fixed(4, 0)?;
+    require(gates_sound(&fresh), Refusal::DeadGate)?;
     require(chunks.rest.is_empty(), Refusal::BytesAfterEnd)?;
     fresh.restart();
     *machine = fresh;

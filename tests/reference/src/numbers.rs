@@ -22,6 +22,8 @@ pub enum Refusal {
     ShortOutput = 8,
     /// The machine record is not sound.
     NotSound = 9,
+    /// A segment's gates are dead: its gate domain lacks E on it.
+    DeadGate = 10,
 }
 
 impl Refusal {

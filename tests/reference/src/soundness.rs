@@ -1,5 +1,6 @@
 //! Soundness of a machine record, whatever it holds.
 
+use crate::checks::{has_flag, Flag};
 use crate::record::{
     Capability, Domain, Frame, Location, Machine, Segment, CAPABILITIES, DOMAINS, FRAMES, SEGMENTS,
 };
@@ -9,14 +10,15 @@ use crate::{MEMORY_WORDS, SEGMENT_WORDS};
 /// Highest rights byte: all four flags.
 const ALL_RIGHTS: u8 = 15;
 
-/// Whether every range holds, every domain and stack segment named exists and
-/// every unused row is zero.
+/// Whether every range holds, every domain and stack segment named exists, no
+/// gate is dead and every unused row is zero.
 pub fn is_sound(machine: &Machine) -> bool {
     let counts = (1..=SEGMENTS).contains(&usize::from(machine.segment_count))
         && (1..=DOMAINS).contains(&usize::from(machine.domain_count));
     counts
         && segments_sound(machine)
         && domains_sound(machine)
+        && gates_sound(machine)
         && registers_sound(machine)
         && frames_sound(machine)
 }
@@ -48,6 +50,14 @@ fn domains_sound(machine: &Machine) -> bool {
             && on_unused.iter().all(|&rights| rights == 0)
     };
     used.iter().all(row_sound) && unused.iter().all(|row| *row == Domain::default())
+}
+
+/// Whether the gate domain of each segment with gates has E on it.
+pub(crate) fn gates_sound(machine: &Machine) -> bool {
+    let mut rows = (0..machine.segment_count).zip(&machine.segments);
+    rows.all(|(segment, row)| {
+        row.gate_count == 0 || has_flag(machine, row.gate_domain, segment, Flag::Execute)
+    })
 }
 
 /// Whether pointers, location, executing domain and start are in range.

@@ -45,10 +45,16 @@ fn both_print_a_refusal_alone() {
     longer.push(0);
     let mut longest = longer.clone();
     longest.resize(200_000, 0);
+    let mut dead_gate = HALTING.to_vec();
+    (dead_gate[16], dead_gate[29]) = (1, 11);
+    let mut dead_gate_and_one = dead_gate.clone();
+    dead_gate_and_one.push(0);
     for program in [RUN_IMAGE, LOG_CROSSINGS] {
         assert_eq!(output(program, &[]), "refused 1\n");
         assert_eq!(output(program, &longer), "refused 6\n");
         assert_eq!(output(program, &longest), "refused 6\n");
+        assert_eq!(output(program, &dead_gate), "refused 10\n");
+        assert_eq!(output(program, &dead_gate_and_one), "refused 10\n");
         assert_eq!(output(program, &[0; 100_000]), "refused 2\n");
     }
 }

@@ -108,23 +108,27 @@ fn execute_makes_it_a_call_inside_the_domain() {
 #[test]
 fn gate_into_a_domain_that_cannot_execute_there() {
     let mut bench = calling(0, &list().words());
-    bench.machine.domains[1].rights[2] = R;
+    for rights in [0, R, W, G, R | W | G] {
+        bench.machine.domains[1].rights[2] = rights;
+        bench.faults(9);
+    }
+    bench.machine.domains[1].rights[2] = E;
     bench.steps(1);
     assert_eq!(bench.machine.domain, 1);
-    bench.faults(22);
+    bench.steps(1);
 }
 
 #[test]
 fn gate_into_the_calling_domain_itself() {
     let mut bench = calling(0, &list().words());
     bench.machine.segments[2].gate_domain = 0;
+    bench.faults(9);
+    bench.machine.domains[0].rights[2] = E | G;
     bench.steps(1);
     assert_eq!(bench.machine.domain, 0);
-    assert_eq!(bench.machine.frame_count, 1);
-    assert_eq!(bench.machine.frames[0].domain, 0);
-    assert_eq!(bench.machine.pointers[0], tagged_at(4, 0));
+    assert_eq!(bench.machine.frame_count, 0, "with E the call stays inside");
+    assert_eq!(bench.machine.pointers[0], untagged_at(4, 0));
     assert_eq!(bench.machine.pointers[2], untagged_at(1, 0));
-    bench.faults(22);
 }
 
 #[test]

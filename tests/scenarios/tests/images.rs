@@ -1,8 +1,12 @@
 //! The image: refusals in their order, reading, writing, and segments.
 
 use assembler::*;
+use compare::runs::both_run_image;
+use compare::{library, Pair, State};
 use reference::report::printed;
-use reference::{read_image, segment, segment_number, write_image, Machine, Refusal};
+use reference::{
+    host, read_image, record_bytes, segment, segment_number, write_image, Machine, Refusal,
+};
 use scenarios::*;
 
 /// Two segments of three and two words, two domains.
@@ -12,24 +16,29 @@ fn small() -> ImageBuilder {
     image.segment([11u32, 12]);
     image.gates(0, 3, 1);
     image.domain(1, &[(0, R | E), (1, R | W)]);
-    image.domain(0, &[(1, R)]);
+    image.domain(0, &[(0, E), (1, R)]);
     image.start(0, pointer(0, 0));
     image
 }
 
-/// The number that reading gives; refused, it must leave all as it was.
+/// The number that reading gives, by the library too; refused, it must leave
+/// all as it was.
 fn refusal(image: &[u8]) -> u8 {
     let mut machine = world(&[]).machine;
     let before = machine.clone();
     let mut memory = vec![5; 8192];
-    match read_image(image, &mut machine, &mut memory) {
+    let number = match read_image(image, &mut machine, &mut memory) {
         Ok(()) => 0,
         Err(refusal) => {
             assert_eq!(machine, before);
             assert_eq!(memory, vec![5; 8192]);
             refusal.number()
         }
+    };
+    if library::linked().is_ok() {
+        assert_eq!(both_run_image(image, 0), Ok(number));
     }
+    number
 }
 
 /// The small image with one chunk replaced.
@@ -235,9 +244,165 @@ fn earlier_chunks_are_judged_before_later_ones() {
     assert_eq!(refusal(&chunks.concat()), 2, "2 before 6");
 }
 
+/// The small image with these rights of its gates' domain on their segment.
+fn with_rights(rights: u8) -> ImageBuilder {
+    let mut image = small();
+    image.rights(1, 0, rights);
+    image
+}
+
+/// The chunks of the small image with dead gates.
+fn dead() -> Vec<Vec<u8>> {
+    with_rights(R | W | G).chunks()
+}
+
+#[test]
+fn gates_are_dead_without_execute() {
+    for rights in 0..16 {
+        let expected = if rights & E == 0 { 10 } else { 0 };
+        let mut image = with_rights(rights);
+        for count in 1..=3 {
+            image.gates(0, count, 1);
+            assert_eq!(refusal(&image.bytes()), expected, "rights {rights}");
+        }
+        image.gates(0, 0, 1);
+        assert_eq!(refusal(&image.bytes()), 0, "no gates, rights {rights}");
+    }
+}
+
+/// Sixteen segments with gates into eight domains; each domain has E on the
+/// segments whose gates lead into it, and nothing else.
+fn gates_everywhere() -> ImageBuilder {
+    let mut image = ImageBuilder::new();
+    for segment in 0..16 {
+        image.segment(vec![0u32; 300]);
+        image.gates(segment, 1 + 16 * u16::from(segment), segment / 2);
+    }
+    for domain in 0..8 {
+        image.domain(0, &[(2 * domain, E), (2 * domain + 1, E)]);
+    }
+    image
+}
+
+#[test]
+fn one_dead_gate_among_many_is_enough() {
+    assert_eq!(refusal(&gates_everywhere().bytes()), 0);
+    for segment in 0..16 {
+        let mut image = gates_everywhere();
+        image.rights(segment / 2, segment, R | W | G);
+        assert_eq!(refusal(&image.bytes()), 10, "segment {segment}");
+        let mut image = gates_everywhere();
+        image.gates(segment, 256, (segment / 2 + 1) % 8);
+        assert_eq!(refusal(&image.bytes()), 10, "256 gates, segment {segment}");
+    }
+}
+
+#[test]
+fn the_gate_domains_rights_count_and_no_other_domains() {
+    for segment in 0..16 {
+        let own = segment / 2;
+        let mut image = gates_everywhere();
+        image.rights(own, segment, 0).start(7 - own, 0);
+        for other in (0..8).filter(|&other| other != own) {
+            image.rights(other, segment, 15);
+        }
+        assert_eq!(refusal(&image.bytes()), 10, "segment {segment}");
+        image.rights(own, segment, E);
+        for other in (0..8).filter(|&other| other != own) {
+            image.rights(other, segment, 0);
+        }
+        assert_eq!(refusal(&image.bytes()), 0, "segment {segment}");
+    }
+}
+
+#[test]
+fn a_wrong_kind_4_comes_before_a_dead_gate() {
+    let upto = dead()[..5].concat();
+    let then = |last: &[u8]| refusal(&[&upto[..], last].concat());
+    for length in 0..4 {
+        assert_eq!(then(&header(0, 4)[..length]), 1, "{length} bytes");
+    }
+    for kind in [0, 1, 2, 3, 5, 0x0104, 0x0400] {
+        assert_eq!(then(&header(0, kind)), 2, "kind {kind}");
+        assert_eq!(then(&header(1, kind)), 2, "kind {kind}");
+    }
+    for length in [1, 10, 256, 65_535] {
+        assert_eq!(then(&header(length, 4)), 3, "{length} bytes of body");
+    }
+    assert_eq!(then(&chunk(4, &[0])), 3);
+    assert_eq!(then(&chunk(4, &[])), 10);
+}
+
+#[test]
+fn a_dead_gate_comes_before_bytes_after_the_end() {
+    for after in [vec![0], small().bytes(), dead().concat(), vec![9; 70_000]] {
+        assert_eq!(refusal(&[dead().concat(), after.clone()].concat()), 10);
+        assert_eq!(refusal(&[small().bytes(), after].concat()), 6);
+    }
+}
+
+#[test]
+fn refusals_of_kinds_1_to_3_come_before_a_dead_gate() {
+    let image = dead().concat();
+    for length in 0..image.len() {
+        assert_eq!(refusal(&image[..length]), 1, "{length} bytes");
+    }
+    let mut chunks = dead();
+    chunks[4][2] = 4;
+    assert_eq!(refusal(&chunks.concat()), 2, "2 before 10");
+    let mut chunks = dead();
+    chunks[4] = chunk(3, &[0; 4]);
+    assert_eq!(refusal(&chunks.concat()), 3, "3 before 10");
+    for (index, place, byte) in [(0, 3, 1), (1, 0, 4), (2, 2, 2), (4, 0, 2), (4, 2, 16)] {
+        let mut chunks = dead();
+        chunks[index][4 + place] = byte;
+        assert_eq!(refusal(&chunks.concat()), 4, "4 before 10");
+    }
+    let mut image = sized(&[4096, 4096, 1]);
+    image.gates(1, 1, 0);
+    assert_eq!(refusal(&image.bytes()), 5, "5 before 10");
+    let mut image = sized(&[4096, 4096]);
+    image.gates(1, 1, 0);
+    assert_eq!(refusal(&image.bytes()), 10);
+}
+
+/// Reads an image into a record as bytes, by the library too; gives the number.
+fn read_over(image: &[u8], record: &mut [u8], words: &mut [u32]) -> u8 {
+    let mut pair = Pair::new(&State::new(record, words));
+    let number = host::read(image, record, words);
+    if library::linked().is_ok() {
+        assert_eq!(pair.read(image), Ok(number));
+    }
+    number
+}
+
+#[test]
+fn an_image_is_read_over_a_record_with_a_dead_gate() {
+    let mut machine = Bench::new(&small()).machine;
+    machine.domains[1].rights[0] = R;
+    let before = record_bytes(&machine);
+    let (mut record, mut words) = (before.clone(), vec![5; 8192]);
+    for (image, number) in [(dead().concat(), 10), (vec![], 1)] {
+        assert_eq!(read_over(&image, &mut record, &mut words), number);
+        assert_eq!((&record, &words), (&before, &vec![5; 8192]));
+    }
+    assert_eq!(read_over(&small().bytes(), &mut record, &mut words), 0);
+    assert_eq!(record, record_bytes(&Bench::new(&small()).machine));
+}
+
+#[test]
+fn short_records_and_memories_come_before_a_dead_gate() {
+    let image = dead().concat();
+    let (mut record, mut words) = (vec![3; 919], vec![5; 8192]);
+    assert_eq!(read_over(&image, &mut record[..918], &mut words), 8);
+    assert_eq!(read_over(&image, &mut record, &mut words[..8191]), 7);
+    assert_eq!(read_over(&image, &mut record, &mut words), 10);
+    assert_eq!((record, words), (vec![3; 919], vec![5; 8192]));
+}
+
 #[test]
 fn a_short_memory_comes_before_the_image() {
-    for image in [small().bytes(), vec![], vec![9; 40]] {
+    for image in [small().bytes(), dead().concat(), vec![], vec![9; 40]] {
         let mut machine = Machine::default();
         let mut memory = vec![5; 8191];
         let read = read_image(&image, &mut machine, &mut memory);
@@ -275,7 +440,7 @@ fn reading_makes_a_fresh_machine_and_leaves_other_words() {
     expected.segments[1].length = 2;
     expected.domains[0].stack_segment = 1;
     expected.domains[0].rights[..2].copy_from_slice(&[R | E, R | W]);
-    expected.domains[1].rights[..2].copy_from_slice(&[0, R]);
+    expected.domains[1].rights[..2].copy_from_slice(&[E, R]);
     expected.pointers[2] = untagged_at(0, 0);
     expected.start.segment = 1;
     expected.start.word = 4095;
@@ -303,6 +468,17 @@ fn written(bench: &Bench) -> Vec<u8> {
 fn writing_an_image_gives_the_bytes_read() {
     let bench = Bench::new(&small());
     assert_eq!(written(&bench), small().bytes());
+}
+
+#[test]
+fn what_is_written_is_accepted_again() {
+    let mut no_gates = with_rights(0);
+    no_gates.gates(0, 0, 1);
+    for image in [small(), no_gates, gates_everywhere()] {
+        let written = written(&Bench::new(&image));
+        assert_eq!(written, image.bytes());
+        assert_eq!(refusal(&written), 0);
+    }
 }
 
 #[test]
@@ -339,6 +515,9 @@ fn writing_refuses_nine_then_seven_then_eight() {
     let mut output = [9; 3];
     let mut write = |machine: &Machine| write_image(machine, &memory, &mut output);
     assert_eq!(write(&bench.machine), Err(Refusal::ShortMemory));
+    let mut dead = bench.machine.clone();
+    dead.domains[1].rights[0] = R;
+    assert_eq!(write(&dead), Err(Refusal::NotSound));
     bench.machine.domain = 8;
     assert_eq!(write(&bench.machine), Err(Refusal::NotSound));
     assert_eq!(output, [9; 3]);

@@ -86,6 +86,8 @@ fn stored(file: &str) -> Vec<u8> {
 #[test]
 fn stored_images_print_their_lines_and_logs() {
     for name in [
+        "dead_gate",
+        "dead_gate_and_one",
         "far_gate",
         "fault",
         "gate",
@@ -101,6 +103,20 @@ fn stored_images_print_their_lines_and_logs() {
         assert_eq!(printed(&image).as_bytes(), result, "{name}");
         assert_eq!(printed_log(&image).as_bytes(), log, "{name}");
     }
+}
+
+#[test]
+fn the_dead_gate_that_is_stored_lacks_e_alone() {
+    let gate = stored("gate.img");
+    let mut dead = stored("dead_gate.img");
+    let places = 0..gate.len();
+    let changed: Vec<usize> = places.filter(|&at| dead[at] != gate[at]).collect();
+    let [rights] = changed[..] else {
+        panic!("one byte, not {changed:?}");
+    };
+    assert_eq!((gate[rights], dead[rights]), (E, R | W | G));
+    dead.push(0);
+    assert!(dead == stored("dead_gate_and_one.img"), "a byte more");
 }
 
 #[test]
@@ -158,14 +174,16 @@ fn transfers_inside_a_domain_are_no_crossings() {
 }
 
 #[test]
-fn a_gate_into_its_own_callers_domain_is_a_crossing() {
+fn a_gate_into_its_own_callers_domain_is_dead_or_no_crossing() {
     let mut image = nested(&[ret(A, 1).indirect()]);
     image.gates(4, 1, 1).rights(1, 4, G);
+    assert_eq!(printed(&image.bytes()), "refused 10\n");
+    assert_eq!(printed_log(&image.bytes()), "refused 10\n");
+    image.rights(1, 4, E | G);
     let mut bench = Bench::new(&image);
-    bench.steps(4);
-    assert_eq!(bench.step(), 0);
-    assert_eq!((bench.machine.domain, bench.machine.frame_count), (1, 2));
-    let lines = "call 0 1 2 0\ncall 1 1 4 0\ncalls 2 returns 0\n";
+    bench.steps(5);
+    assert_eq!((bench.machine.domain, bench.machine.frame_count), (1, 1));
+    let lines = "call 0 1 2 0\nreturn 1 0 0 2\ncalls 1 returns 1\n";
     assert_eq!(printed_log(&image.bytes()), lines);
 }
 

@@ -1,8 +1,9 @@
 //! Which records are sound, field by field, and that every call refuses the
 //! others with 9 and leaves all as it was.
 
-use assembler::{R, W};
-use reference::{is_sound, Machine, Refusal};
+use assembler::{E, G, R, W};
+use compare::library;
+use reference::{host, is_sound, Machine, Refusal};
 use scenarios::*;
 
 /// A sound record with two frames in use.
@@ -49,10 +50,45 @@ fn segments() {
     assert!(after(|m| m.segments[1].length = 4066), "8,192 in all");
     assert!(!after(|m| m.segments[1].length = 4067), "8,193 in all");
     assert!(!after(|m| m.segments[4].length = 4097));
-    assert!(after(|m| m.segments[1].gate_count = 10));
-    assert!(!after(|m| m.segments[1].gate_count = 11));
+    assert!(after(|m| m.segments[2].gate_count = 10));
+    assert!(!after(|m| m.segments[2].gate_count = 11));
     assert!(!after(|m| m.segments[1].gate_domain = 2), "no gates, yet");
     assert!(!after(|m| m.segments[2].gate_domain = 200));
+}
+
+#[test]
+fn gates() {
+    for rights in 0..16 {
+        let executes = rights & E != 0;
+        assert_eq!(after(|m| m.domains[1].rights[2] = rights), executes);
+        let without_gates = |m: &mut Machine| {
+            m.domains[1].rights[2] = rights;
+            m.segments[2].gate_count = 0;
+        };
+        assert!(after(without_gates), "no gates, rights {rights}");
+    }
+    assert!(!after(|m| m.segments[2].gate_domain = 0), "G and no E");
+    let another_executes = |m: &mut Machine| {
+        m.domains[1].rights[2] = R | W | G;
+        m.domains[0].rights[2] = 15;
+    };
+    assert!(!after(another_executes), "the executing domain has E");
+    for segment in [0, 1, 3, 4] {
+        let gates = |m: &mut Machine, domain: u8, count| {
+            m.segments[segment].gate_count = count;
+            m.segments[segment].gate_domain = domain;
+        };
+        let executes = segment == 0;
+        assert_eq!(after(|m| gates(m, 0, 1)), executes, "segment {segment}");
+        assert!(!after(|m| gates(m, 1, 1)), "segment {segment}");
+        assert!(after(|m| gates(m, 1, 0)), "segment {segment}");
+        let with_execute = |m: &mut Machine| {
+            gates(m, 1, m.segments[segment].length);
+            m.domains[1].rights[segment] |= E;
+        };
+        assert!(after(with_execute), "segment {segment}");
+    }
+    assert!(!after(|m| m.segments[4].gate_count = 256), "256 gates");
 }
 
 #[test]
@@ -161,6 +197,94 @@ fn every_call_refuses_an_unsound_record() {
     assert_eq!(machine, before);
     assert_eq!(memory, vec![7; 8192]);
     assert_eq!(output, vec![1; 40_000]);
+}
+
+/// A logged run: record, words, log, calls and returns.
+type Log = fn(&mut [u8], &mut [u32], &mut [u8], &mut u16, &mut u16) -> u32;
+
+/// The calls on a record as bytes; those of the reference or the library.
+struct Calls {
+    run: fn(&mut [u8], &mut [u32], u16) -> u32,
+    stretch: fn(&mut [u8], &mut [u32], u16) -> u32,
+    step: fn(&mut [u8], &mut [u32]) -> u16,
+    write: fn(&[u8], &[u32], &mut [u8]) -> u32,
+    segment: fn(&[u8], &[u32], u8, &mut u16, &mut u16) -> u8,
+    check: fn(&[u8], u8, u8, u8, u16) -> u32,
+    restart: fn(&mut [u8]) -> u8,
+    log: Log,
+}
+
+const BY_REFERENCE: Calls = Calls {
+    run: host::run,
+    stretch: host::stretch,
+    step: host::step,
+    write: host::write,
+    segment: host::segment,
+    check: host::check,
+    restart: host::restart,
+    log: host::log,
+};
+
+const BY_LIBRARY: Calls = Calls {
+    run: library::run,
+    stretch: library::stretch,
+    step: library::step,
+    write: library::write,
+    segment: library::segment,
+    check: library::check,
+    restart: library::restart,
+    log: library::log,
+};
+
+/// Makes each call on a record that is not sound: 9, and all stays. Few words
+/// and outputs that are too short change nothing.
+fn all_give_nine(calls: &Calls, record: &[u8], words: &[u32]) {
+    let before = (record.to_vec(), words.to_vec());
+    let (mut record, mut words) = before.clone();
+    for limit in [0, 1, 1000] {
+        assert_eq!((calls.run)(&mut record, &mut words, limit), 0x0409_0000);
+        assert_eq!((calls.stretch)(&mut record, &mut words, limit), 0x0409_0000);
+    }
+    assert_eq!((calls.step)(&mut record, &mut words), 9);
+    assert_eq!((calls.restart)(&mut record), 9);
+    let (mut output, mut first, mut count) = ([3; 40_000], 5, 6);
+    for length in [0, 40_000] {
+        let output = &mut output[..length];
+        assert_eq!((calls.write)(&record, &words, output), 0x1_0009);
+        let logged = (calls.log)(&mut record, &mut words, output, &mut first, &mut count);
+        assert_eq!(logged, 0x0409_0000);
+    }
+    for segment in [0, 2, 16, 255] {
+        let number = (calls.segment)(&record, &words, segment, &mut first, &mut count);
+        assert_eq!(number, 9, "segment {segment}");
+    }
+    for (write, tag) in [(0, 0), (1, 0), (0, 1), (1, 1)] {
+        assert_eq!((calls.check)(&record, write, tag, 4, 0), 0x1_0009);
+    }
+    assert_eq!((first, count, output), (5, 6, [3; 40_000]));
+    assert_eq!((record, words), before);
+}
+
+#[test]
+fn every_call_refuses_a_dead_gate() {
+    let changes: [fn(&mut Machine); 4] = [
+        |m| m.domains[1].rights[2] = R | W | G,
+        |m| m.segments[2].gate_domain = 0,
+        |m| m.segments[4].gate_count = 4096,
+        |m| (m.domain, m.domains[1].rights[2]) = (1, 0),
+    ];
+    for change in changes {
+        let mut machine = sound();
+        change(&mut machine);
+        let record = reference::record_bytes(&machine);
+        for count in [8192, 8191, 0] {
+            let words = vec![7; count];
+            all_give_nine(&BY_REFERENCE, &record, &words);
+            if library::linked().is_ok() {
+                all_give_nine(&BY_LIBRARY, &record, &words);
+            }
+        }
+    }
 }
 
 #[test]

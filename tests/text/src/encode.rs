@@ -1,6 +1,6 @@
 //! The names of a draft resolved, and its image.
 
-use assembler::{pointer, tagged, ImageBuilder};
+use assembler::{pointer, tagged, ImageBuilder, E};
 
 use crate::draft::Draft;
 use crate::error::Error;
@@ -23,6 +23,7 @@ pub fn image(draft: &Draft, last_line: usize) -> Result<Vec<u8>, Error> {
     let mut image = ImageBuilder::new();
     segments(draft, &mut image)?;
     domains(draft, &mut image)?;
+    no_dead_gate(draft, &image)?;
     let domain = domain_number(draft, domain).map_err(at(line))?;
     let start = pointer_word(draft, false, place, 1).map_err(at(line))?;
     image.start(domain, start);
@@ -73,6 +74,22 @@ fn domains(draft: &Draft, image: &mut ImageBuilder) -> Result<(), Error> {
             rights.push((segment_number(draft, segment).map_err(at(line))?, flags));
         }
         image.domain(stack, &rights);
+    }
+    Ok(())
+}
+
+/// Refuses gates into a domain that may not execute their segment.
+fn no_dead_gate(draft: &Draft, image: &ImageBuilder) -> Result<(), Error> {
+    for (number, part) in (0..).zip(&draft.segments) {
+        let (count, domain) = image.gates_of(number);
+        let dead = count > 0 && image.rights_of(domain, number) & E == 0;
+        if let Some((line, _, domain)) = part.gates.filter(|_| dead) {
+            let reason = format!(
+                "segment '{}' has gates into domain '{domain}', which has no E on it",
+                part.name
+            );
+            return Err(at(line)(reason));
+        }
     }
     Ok(())
 }

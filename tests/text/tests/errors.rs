@@ -275,6 +275,30 @@ fn gates_domains_and_start() {
 }
 
 #[test]
+fn dead_gates() {
+    let dead = "segment 'code' has gates into domain 'd', which has no E on it";
+    let text = |gates: &str, rights: &str| {
+        let domain =
+            format!("domain d stack code\n{rights}\ndomain e stack code\nrights code RWEG");
+        format!("segment more\nHALT\nsegment code\n{gates}\nHALT\n{domain}\nstart e code|0")
+    };
+    for rights in ["", "rights code R", "rights code RWG", "rights more E"] {
+        refused(&text("gates 1 into d", rights), &format!("line 4: {dead}"));
+        assert!(text::assemble(&text("gates 0 into d", rights)).is_ok());
+        assert!(text::assemble(&text("gates 1 into e", rights)).is_ok());
+    }
+    for rights in ["rights code E", "rights code GEW"] {
+        assert!(text::assemble(&text("gates 1 into d", rights)).is_ok());
+    }
+    let first = around("gates 1 into only\nHALT").replace("code E", "code RWG");
+    let dead = "line 2: segment 'code' has gates into domain 'only', which has no E on it";
+    refused(&first, dead);
+    refused(&first.replace("code|0", "x|0"), dead);
+    let late = "start only code|0\ndomain only stack code\nsegment code\nHALT\ngates 1 into only";
+    refused(late, &dead.replace("line 2", "line 5"));
+}
+
+#[test]
 fn too_much_or_too_little() {
     refused("", "line 1: the text has no 'segment' line");
     refused("\n\n# nothing", "line 3: the text has no 'segment' line");

@@ -97,7 +97,7 @@ fn gates_domains_and_start() {
         rights data GEWR
         domain second stack code
         rights code R
-        rights data W
+        rights data WE
         domain third stack data
         segment data
         gates 2 into second
@@ -110,7 +110,7 @@ fn gates_domains_and_start() {
     let rights = machine
         .domains
         .map(|row| (row.stack_segment, row.rights[0], row.rights[1]));
-    assert_eq!(rights[..3], [(0, 15, 0), (1, 2, 1), (0, 0, 0)]);
+    assert_eq!(rights[..3], [(0, 15, 0), (1, 6, 1), (0, 0, 0)]);
     let gates = machine
         .segments
         .map(|row| (row.gate_count, row.gate_domain));

@@ -13,8 +13,9 @@ impl Comparison {
     pub fn restarts(&mut self, count: u64) -> Result<(), String> {
         for index in 0..count {
             let mut rng = Rng::new(self.seed ^ 11, index);
-            let number = restart_any(&mut rng)?;
-            self.tally.add(Call::Restart, number);
+            let state = any_state(&mut rng);
+            let number = restart_any(&state)?;
+            self.tally.add_for(Call::Restart, number, &state.record);
             restart_mid_run(&mut rng).map_err(|what| format!("restart {index}: {what}"))?;
             self.tally.add(Call::Restart, 0);
         }
@@ -23,11 +24,10 @@ impl Comparison {
 }
 
 /// Restarts a record of any kind; gives the number.
-fn restart_any(rng: &mut Rng) -> Result<u8, String> {
-    let state = any_state(rng);
-    let mut pair = Pair::new(&state);
+fn restart_any(state: &State) -> Result<u8, String> {
+    let mut pair = Pair::new(state);
     let number = restart(&mut pair)?;
-    if number != 0 && pair.reference != state {
+    if number != 0 && pair.reference != *state {
         return Err(format!("changed by a refused restart, {number}"));
     }
     Ok(number)

@@ -30,7 +30,7 @@ impl Comparison {
             for segment in NUMBERS {
                 let before = (rng.next() as u16, rng.next() as u16);
                 let number = same_place(&lent, segment, before)?;
-                self.tally.add(Call::Segment, number);
+                self.tally.add_for(Call::Segment, number, &state.record);
             }
             if *black_box(&mut lent) != state {
                 return Err(format!("record {index} or its words changed"));

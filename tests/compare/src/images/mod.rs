@@ -10,7 +10,7 @@ pub use tally::{Call, Tally};
 
 use crate::library;
 use crate::state::State;
-use generator::{damaged_image, lent, program, Rng};
+use generator::{lent, made_damaged, program, Rng};
 use reading::{start, start_of, Reading};
 use reference::image::image_length;
 use reference::{machine_from_bytes, MEMORY_WORDS};
@@ -76,7 +76,9 @@ impl Comparison {
     /// Reads damaged images.
     pub fn damaged(&mut self, seed: u64, count: u64) -> Result<(), String> {
         for index in 0..count {
-            self.read(&damaged_image(seed, index))?;
+            let image = made_damaged(seed, index);
+            self.tally.dead_gates.add(&image);
+            self.read(&image.bytes)?;
         }
         Ok(())
     }
@@ -187,9 +189,11 @@ impl Comparison {
         };
         let longer = (exact + 1 + self.rng.below(60) as usize).min(LONGEST_OUTPUT);
         let shorter = self.rng.below(exact as u32) as usize;
+        let dead = u64::from(lent::is_dead_gate_alone(&state.record));
         for length in [exact - 1, shorter, longer, exact] {
             let number = self.writing.compare(state, length)?;
             self.tally.add(Call::Write, number);
+            self.tally.dead_writes += dead;
         }
         Ok(())
     }

@@ -73,7 +73,7 @@ fn two_segments() -> ImageBuilder {
     image.segment([11u32, 0xFFFF_FFFF]);
     image.gates(0, 3, 1);
     image.domain(1, &[(0, R | E), (1, R | W)]);
-    image.domain(0, &[(1, R), (0, G)]);
+    image.domain(0, &[(1, R), (0, E | G)]);
     image.start(1, pointer(0, 3));
     image
 }
@@ -96,7 +96,7 @@ fn late_start() -> ImageBuilder {
 }
 
 /// Segments of these sizes with words that all differ, and domains with
-/// various rights and stack segments.
+/// various rights and stack segments; the domain of a segment's gates has E.
 fn of_sizes(sizes: &[u32], domains: u8) -> ImageBuilder {
     let mut image = ImageBuilder::new();
     let mut word = 0u32;
@@ -109,7 +109,11 @@ fn of_sizes(sizes: &[u32], domains: u8) -> ImageBuilder {
     }
     let segments = sizes.len() as u8;
     for domain in 0..domains {
-        let rights = (0..segments).map(|segment| (segment, (5 * domain + 3 * segment + 1) % 16));
+        let rights = (0..segments).map(|segment| {
+            let executes = if segment % domains == domain { E } else { 0 };
+            let various = (5 * domain + 3 * segment + 1) % 16;
+            (segment, various | executes)
+        });
         image.domain(domain % segments, &rights.collect::<Vec<_>>());
     }
     image.start(domains - 1, pointer(u32::from(segments) - 1, 0));

@@ -1,9 +1,10 @@
 //! How often each number was given.
 
+use generator::DeadGates;
 use std::fmt;
 
 /// Highest number that a reader or writer gives.
-const HIGHEST: usize = 9;
+const HIGHEST: usize = 10;
 
 /// The two calls.
 #[derive(Clone, Copy, Debug, PartialEq, Eq)]
@@ -16,6 +17,10 @@ pub enum Call {
 #[derive(Clone, Debug, Default)]
 pub struct Tally {
     counts: [[u64; HIGHEST + 1]; 2],
+    /// Damaged images by what was done to their gates.
+    pub dead_gates: DeadGates,
+    /// Writes that gave 9 for a dead gate alone.
+    pub dead_writes: u64,
 }
 
 impl Tally {
@@ -43,6 +48,9 @@ impl fmt::Display for Tally {
             writeln!(f, "{number:<6}{read:>11}{write:>11}")?;
         }
         let [read, write] = self.counts.map(|row| row.iter().sum::<u64>());
-        writeln!(f, "all   {read:>11}{write:>11}")
+        writeln!(f, "all   {read:>11}{write:>11}")?;
+        write!(f, "{}", self.dead_gates)?;
+        let writes = self.dead_writes;
+        writeln!(f, "writes that gave 9 for a dead gate alone: {writes}")
     }
 }

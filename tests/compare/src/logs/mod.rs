@@ -74,12 +74,16 @@ impl Comparison {
     }
 
     /// Damaged images of these indexes, read over a machine in the middle of a
-    /// run, which is logged where the read is refused.
+    /// run, which is logged where the read is refused; one in eight of these
+    /// machines has a dead gate.
     pub fn damaged(&mut self, indexes: Range<u64>) -> Result<(), String> {
         for index in indexes {
             let mut rng = Rng::new(self.seed ^ 14, index);
             let bytes = damaged_image(self.seed, index);
-            self.before = lent::mid_run(&mut rng).into();
+            self.before = match rng.below(8) {
+                0 => lent::dead_gate(&mut rng).into(),
+                _ => lent::mid_run(&mut rng).into(),
+            };
             self.image(&mut rng, &bytes)
                 .map_err(|what| described("damaged image", index, &bytes, &what))?;
         }

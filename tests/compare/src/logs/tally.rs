@@ -4,6 +4,7 @@ use super::laws::{lines, FRAMES_IN_USE};
 use super::pair::Output;
 use crate::runs::{kind, number, Kind};
 use crate::state::State;
+use generator::lent;
 use reference::crossings::CROSSING_BYTES;
 use reference::RECORD_BYTES;
 use std::collections::BTreeMap;
@@ -19,6 +20,8 @@ pub struct Tally {
     numbers: BTreeMap<u8, u64>,
     /// Refused with 8 for the log and not for the record.
     pub short_logs: u64,
+    /// Refused with 9 for a dead gate alone.
+    pub dead_gates: u64,
     /// Not refused, by lines: none, 1, 2 to 9, 10 or more.
     pub lines: [u64; 4],
     /// Lines of the longest log.
@@ -42,6 +45,7 @@ impl Tally {
         if kind(code) == Some(Kind::Refused) {
             let is_log = number == 8 && state.record.len() >= RECORD_BYTES;
             self.short_logs += u64::from(is_log);
+            self.dead_gates += u64::from(lent::is_dead_gate_alone(&state.record));
             return;
         }
         let lines = lines(output);
@@ -92,6 +96,7 @@ impl Tally {
             ("number 8 for the record", self.of(8) - self.short_logs),
             ("number 8 for the log", self.short_logs),
             ("number 9", self.of(9)),
+            ("number 9 for a dead gate alone", self.dead_gates),
         ];
         let others = others.map(|(name, count)| (name.to_string(), count));
         let all = lines.chain(others);
@@ -108,6 +113,7 @@ impl fmt::Display for Tally {
             write!(f, " {number}: {}", self.of(number))?;
         }
         writeln!(f, "\n8 for the log: {}", self.short_logs)?;
+        writeln!(f, "9 for a dead gate alone: {}", self.dead_gates)?;
         write!(f, "logs by lines:")?;
         for (name, count) in BUCKETS.iter().zip(self.lines) {
             write!(f, " {name}: {count}")?;

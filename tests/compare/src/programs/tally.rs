@@ -1,5 +1,6 @@
 //! What the programs printed.
 
+use generator::REFUSALS;
 use std::collections::BTreeMap;
 use std::fmt;
 
@@ -47,7 +48,8 @@ impl Tally {
 
     /// What was never reached, of all that a large batch must reach.
     pub fn missing(&self) -> Vec<String> {
-        let refused = (1..=6).map(|number| (format!("refused {number}"), self.of(number)));
+        let refused = REFUSALS.map(u32::from).into_iter();
+        let refused = refused.map(|number| (format!("refused {number}"), self.of(number)));
         let digits = (1..).zip(self.digits);
         let digits = digits.map(|(digits, count)| (format!("words of {digits} digits"), count));
         let segments = [("segments of two digits".to_string(), self.high_segments)];
@@ -61,7 +63,7 @@ impl Tally {
 impl fmt::Display for Tally {
     fn fmt(&self, f: &mut fmt::Formatter<'_>) -> fmt::Result {
         write!(f, "refused:")?;
-        for number in 1..=6 {
+        for number in REFUSALS.map(u32::from) {
             write!(f, " {number}: {}", self.of(number))?;
         }
         write!(f, "\ncrossings by digits of the word:")?;

@@ -13,7 +13,7 @@ pub use tally::Tally;
 use crate::state::{Pair, State};
 use crate::{hex, library};
 use generator::lent::{self, Lent};
-use generator::{damaged_image, image, Rng};
+use generator::{made, made_damaged, Rng};
 use reference::bytes::put_record;
 use reference::host::code_of;
 use reference::record::ACTIVATION_POINTER;
@@ -61,7 +61,9 @@ impl Comparison {
     pub fn generated(&mut self, indexes: Range<u64>) -> Result<(), String> {
         for index in indexes {
             let mut rng = Rng::new(self.seed ^ 1, index);
-            let bytes = image(self.seed, index);
+            let image = made(self.seed, index);
+            self.tally.reached.dead_gates.add(&image);
+            let bytes = image.bytes;
             self.image(&mut rng, index, &bytes, None)
                 .map_err(|what| described("image", index, &bytes, &what))?;
         }
@@ -69,14 +71,18 @@ impl Comparison {
     }
 
     /// Damaged images of these indexes, read over a machine in the middle of
-    /// a run, which goes on where the read is refused.
+    /// a run, which goes on where the read is refused; one in eight of these
+    /// machines has a dead gate.
     pub fn damaged(&mut self, indexes: Range<u64>) -> Result<(), String> {
         for index in indexes {
             let mut rng = Rng::new(self.seed ^ 2, index);
-            let bytes = damaged_image(self.seed, index);
-            let start = match rng.below(2) {
-                0 => lent::mid_run(&mut rng),
-                _ => lent::sound(&mut rng),
+            let image = made_damaged(self.seed, index);
+            self.tally.reached.dead_gates.add(&image);
+            let bytes = image.bytes;
+            let start = match rng.below(8) {
+                0..=3 => lent::mid_run(&mut rng),
+                4..=6 => lent::sound(&mut rng),
+                _ => lent::dead_gate(&mut rng),
             };
             self.image(&mut rng, index, &bytes, Some(&start))
                 .map_err(|what| described("damaged image", index, &bytes, &what))?;
@@ -182,7 +188,7 @@ impl Comparison {
         let called = self.pair.call(call).and_then(|code| {
             self.left_alone_if_refused(code)?;
             self.watch(call, code)?;
-            self.tally.add_call(call, code);
+            self.tally.add_call(call, code, &self.before.record);
             Ok(code)
         });
         called.map_err(|what| format!("{what}\n{}", self.state_before()))

@@ -1,7 +1,7 @@
 //! What was compared, and what the compared runs reached.
 
 use super::call::{kind, number, Call, Kind, KINDS};
-use generator::Reached;
+use generator::{lent, Reached};
 use std::fmt;
 
 /// Names of the rows of `endings`.
@@ -10,12 +10,14 @@ const ROWS: [&str; 3] = ["runs", "stretches", "steps"];
 /// Counts of calls that both implementations agreed on.
 #[derive(Clone, Debug, Default)]
 pub struct Tally {
-    /// Reads by number, 0 to 9.
-    reads: [u64; 10],
+    /// Reads by number, 0 to 10.
+    reads: [u64; 11],
     /// Runs, stretches and single steps, by kind of ending.
     endings: [[u64; 5]; 3],
     /// Refused calls by number, 0 to 9.
     refused: [u64; 10],
+    /// Runs, stretches and single steps that gave 9 for a dead gate alone.
+    pub dead_gates: [u64; 3],
     /// What the runs and stretches went through; steps aren't in it.
     pub reached: Reached,
 }
@@ -27,8 +29,8 @@ impl Tally {
         self.reached.count_read(number);
     }
 
-    /// Counts a call that gave a code.
-    pub fn add_call(&mut self, call: Call, code: u32) {
+    /// Counts a call that gave a code for a record.
+    pub fn add_call(&mut self, call: Call, code: u32, record: &[u8]) {
         let row = match call {
             Call::Run(_) => 0,
             Call::Stretch(_) => 1,
@@ -37,6 +39,7 @@ impl Tally {
         self.endings[row][(code >> 24) as usize] += 1;
         if kind(code) == Some(Kind::Refused) {
             self.refused[usize::from(number(code))] += 1;
+            self.dead_gates[row] += u64::from(lent::is_dead_gate_alone(record));
         }
     }
 
@@ -77,6 +80,10 @@ impl fmt::Display for Tally {
         write!(f, "\nrefused calls by number:")?;
         for number in 7..=9 {
             write!(f, " {number}: {}", self.refused_with(number))?;
+        }
+        write!(f, "\ncalls that gave 9 for a dead gate alone:")?;
+        for (name, count) in ROWS.iter().zip(self.dead_gates) {
+            write!(f, " {name} {count}")?;
         }
         writeln!(f)
     }

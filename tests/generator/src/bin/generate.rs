@@ -1,7 +1,7 @@
 //! `generate SEED COUNT`: runs a batch of images with the reference and
 //! prints what it reached.
 
-use generator::{image, Reached, LIMIT};
+use generator::{made, Reached, LIMIT};
 
 /// The number given as an argument.
 fn number(argument: Option<String>) -> Option<u64> {
@@ -17,8 +17,10 @@ fn main() -> std::process::ExitCode {
     let mut reached = Reached::default();
     let mut memory = vec![0; reference::MEMORY_WORDS];
     for index in 0..count {
+        let image = made(seed, index);
+        reached.dead_gates.add(&image);
         // Refusals are counted in the report.
-        let _ = reached.observe(&image(seed, index), &mut memory, LIMIT);
+        let _ = reached.observe(&image.bytes, &mut memory, LIMIT);
     }
     print!("{reached}");
     std::process::ExitCode::SUCCESS
