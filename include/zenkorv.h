@@ -10,9 +10,9 @@ extern "C" {
 #endif
 
 #define ZENKORV_VERSION_MAJOR 1
-#define ZENKORV_VERSION_MINOR 1
+#define ZENKORV_VERSION_MINOR 2
 #define ZENKORV_VERSION_PATCH 0
-#define ZENKORV_VERSION "1.1.0"
+#define ZENKORV_VERSION "1.2.0"
 
 /* A machine is a record of so many bytes and a memory of so many words. The firmware keeps them and lends them to calls. */
 #define ZENKORV_RECORD_BYTES 919
@@ -21,7 +21,7 @@ extern "C" {
 /* The longest image that can be accepted, and the longest that is written, in bytes. */
 #define ZENKORV_LONGEST_IMAGE 33080
 
-/* The numbers of refusals, 1 to 9, and of faults, 21 to 32. */
+/* The numbers of refusals, 1 to 10, and of faults, 21 to 32. */
 enum zenkorv_number {
     ZENKORV_OK = 0,
     ZENKORV_CUT_SHORT = 1,        /* chunk header or body cut short */
@@ -33,6 +33,7 @@ enum zenkorv_number {
     ZENKORV_MEMORY_TOO_SHORT = 7, /* fewer than 8,192 words lent */
     ZENKORV_OUTPUT_TOO_SHORT = 8, /* output, log or record too short */
     ZENKORV_NOT_SOUND = 9,        /* the bytes are those of no sound record */
+    ZENKORV_DEAD_GATE = 10,       /* a segment has gates, and its gate domain no E on it */
     ZENKORV_NO_WORD = 21,         /* no such segment or word */
     ZENKORV_FLAG_MISSING = 22,    /* flag missing */
     ZENKORV_OUT_OF_RANGE = 23,    /* a word number leaves 0-4,095 */
@@ -77,7 +78,7 @@ enum zenkorv_ending {
 
 /* The bytes of stack that each call needs on x86-64, its return address included: the bound of tools/stack, rounded up
    with 128 to 255 bytes to spare. Another processor, or another compiler, needs its own figures. */
-#define ZENKORV_STACK_READ 3840
+#define ZENKORV_STACK_READ 3968
 #define ZENKORV_STACK_RUN 4992
 #define ZENKORV_STACK_STRETCH 4992
 #define ZENKORV_STACK_LOG 6016
@@ -90,7 +91,8 @@ enum zenkorv_ending {
 
 /*
  * The record's bytes. Numbers are little-endian, flags are 0 or 1, rows that are not in use are zeros. The firmware may
- * keep and copy the bytes, and read them; a record that was changed is refused with 9 unless it is sound.
+ * keep and copy the bytes, and read them; a record that was changed is refused with 9 unless it is sound. A record with a
+ * dead gate (see 10) is not sound, even if a version before 1.2 accepted it.
  *
  *     at  bytes  what
  *      0  16 x 2  length of each segment, in words
@@ -127,7 +129,7 @@ enum zenkorv_ending {
  * Reads an image into a record and a memory. What they held before does not matter.
  *
  * Returns 0: the record is the fresh machine of the image, the image's words stand from word 0 on. Or a refusal: 8 where
- * the record has fewer than 919 bytes, then 7, then 1 to 6 for the image, which ends where its slice ends.
+ * the record has fewer than 919 bytes, then 7, then 1 to 5, 10 and last 6 for the image, which ends where its slice ends.
  */
 uint8_t zenkorv_read(const uint8_t *image, size_t image_length, uint8_t *record, size_t record_length, uint32_t *words,
                      size_t word_count);
@@ -238,7 +240,7 @@ uint8_t zenkorv_restart(uint8_t *record, size_t record_length);
  *
  * Returns 0 and puts ending (halted, faulted or spent), fault or 0, and count (2 bytes, little-endian) into the first
  * four bytes of the result; bytes past the fourth stay. Or returns a refusal: 8 where the result has fewer than 4 bytes,
- * then 1 to 6 for the image.
+ * then those of zenkorv_read for the image: 1 to 5, 10 and last 6.
  */
 uint8_t zenkorv_entry(const uint8_t *image, size_t image_length, uint16_t limit, uint8_t *result, size_t result_length);
 
@@ -256,6 +258,7 @@ static inline const char *zenkorv_name(uint8_t number)
     case ZENKORV_MEMORY_TOO_SHORT: return "memory too short";
     case ZENKORV_OUTPUT_TOO_SHORT: return "output, log or record too short";
     case ZENKORV_NOT_SOUND: return "record not sound";
+    case ZENKORV_DEAD_GATE: return "dead gate";
     case ZENKORV_NO_WORD: return "no such segment or word";
     case ZENKORV_FLAG_MISSING: return "flag missing";
     case ZENKORV_OUT_OF_RANGE: return "word number out of range";

@@ -16,7 +16,7 @@ static const uint8_t halting[] = {
     0x00, 0x00, 0x04, 0x00,                                                 /* kind 4 */
 };
 
-enum { LENGTH = sizeof halting, WORD_AT = 20, RIGHTS_AT = 29 };
+enum { LENGTH = sizeof halting, GATES_AT = 16, WORD_AT = 20, RIGHTS_AT = 29 };
 
 /* What a call must give. Where it is refused, only the number counts. */
 struct expected {
@@ -100,6 +100,16 @@ static void check_too_many_words(void)
     check_call("words pass 8,192", image, ALL, 1, ROOM, refused(ZENKORV_TOO_MANY_WORDS));
 }
 
+/* The paper's image with its word as a gate into its domain. */
+static void check_gate(const char *name, uint8_t rights, struct expected e)
+{
+    uint8_t image[LENGTH];
+    memcpy(image, halting, LENGTH);
+    image[GATES_AT] = 1;
+    image[RIGHTS_AT] = rights;
+    check_call(name, image, LENGTH, 1000, ROOM, e);
+}
+
 static void check_runs(void)
 {
     check_call("the paper's image", halting, LENGTH, 1000, ROOM, ended(ZENKORV_HALTED, 0, 1));
@@ -108,6 +118,7 @@ static void check_runs(void)
     check_word("JUMP to itself", 0x07003000, 4, 1000, ended(ZENKORV_SPENT, 0, 1000));
     check_word("the highest limit", 0x07003000, 4, 65535, ended(ZENKORV_SPENT, 0, 65535));
     check_word("no E", 0x00000000, 3, 1000, ended(ZENKORV_FAULTED, ZENKORV_FLAG_MISSING, 0));
+    check_gate("a gate with E alone", 4, ended(ZENKORV_HALTED, 0, 1));
     check_word("LOAD without R", 0x01003000, 4, 1000, ended(ZENKORV_FAULTED, ZENKORV_FLAG_MISSING, 0));
     check_word("LIT, then no word", 0x0C000FFF, 4, 1000, ended(ZENKORV_FAULTED, ZENKORV_NO_WORD, 1));
     check_word("opcode 13", 0x0D000000, 4, 1000, ended(ZENKORV_FAULTED, ZENKORV_BAD_INSTRUCTION, 0));
@@ -128,6 +139,7 @@ static void check_refusals(void)
     check_byte("rights above 15", RIGHTS_AT, 16, ZENKORV_BAD_FIELD);
     check_too_many_words();
     check_call("a byte after kind 4", longer, sizeof longer, 1, ROOM, refused(ZENKORV_BYTES_LEFT));
+    check_gate("a gate with all but E", 11, refused(ZENKORV_DEAD_GATE));
     check_call("a result of 3 bytes", halting, LENGTH, 1, 3, refused(ZENKORV_OUTPUT_TOO_SHORT));
     check_call("8 before the image's refusals", halting, 0, 1, 0, refused(ZENKORV_OUTPUT_TOO_SHORT));
     check_call("a result of 4 bytes", halting, LENGTH, 1, 4, ended(ZENKORV_HALTED, 0, 1));

@@ -126,11 +126,47 @@ static void check_unsound_frame(void)
     give_back(m);
 }
 
+/* The gate of first_package leads into domain 1, in segment 2: where the record says so. */
+enum { GATES_1 = 32 + 2 * 1, GATES_2 = 32 + 2 * 2, GATE_DOMAIN_2 = 68 + 2, RIGHTS_ON_GATE = 92 + 16 * 1 + 2 };
+
+enum { ALL_BUT_E = 1 + 2 + 8 };
+
+/* Records that are sound but for a dead gate: each call gives 9, also where the words are too short. */
+static void check_dead_records(struct machine m)
+{
+    struct machine entered = copy_of(m);
+    expect(ZENKORV_RUN_ENDING(stretch(entered, HIGHEST)) == ZENKORV_CROSSED, "a dead gate", "no crossing");
+    check_all_refuse("a gate without E", with_byte(m, RIGHTS_ON_GATE, 0), ZENKORV_NOT_SOUND, 1);
+    check_all_refuse("R, W and G for E", with_byte(m, RIGHTS_ON_GATE, ALL_BUT_E), ZENKORV_NOT_SOUND, 1);
+    check_all_refuse("another gate domain", with_byte(m, GATE_DOMAIN_2, 0), ZENKORV_NOT_SOUND, 1);
+    check_all_refuse("a gate in data", with_byte(m, GATES_1, 1), ZENKORV_NOT_SOUND, 1);
+    check_all_refuse("a gate without E, entered", with_byte(entered, RIGHTS_ON_GATE, ALL_BUT_E), ZENKORV_NOT_SOUND, 1);
+    struct machine dead = with_byte(m, RIGHTS_ON_GATE, 0);
+    check_all_refuse("a gate without E, words short", part_of(dead, RECORD, WORDS - 1), ZENKORV_NOT_SOUND, 1);
+    check_all_refuse("a gate without E, short", part_of(dead, RECORD - 1, WORDS), ZENKORV_OUTPUT_TOO_SHORT, 1);
+    give_back(dead);
+    give_back(entered);
+}
+
+/* With no gates, a gate domain needs no E: the record is accepted, and stays. */
+static void check_no_gates(struct machine m)
+{
+    struct machine without = with_byte(m, RIGHTS_ON_GATE, ALL_BUT_E);
+    without.record[GATES_2] = 0;
+    struct machine before = copy_of(without);
+    expect(run(without, 0) == answer(ZENKORV_SPENT, 0, 0), "no gates and no E", "refused");
+    expect(restart(without) == ZENKORV_OK && same(without, before), "no gates and no E", "something has changed");
+    give_back(before);
+    give_back(without);
+}
+
 /* Refusals of all calls but zenkorv_read, and their order: 8, 9, 7. */
 static void check_refusals(void)
 {
     struct machine m = loaded(&package);
     check_unsound(m);
+    check_dead_records(m);
+    check_no_gates(m);
     check_all_refuse("bytes of no record", lend(RECORD, WORDS), ZENKORV_NOT_SOUND, 1);
     check_all_refuse("bytes of no record, words short", lend(RECORD, WORDS - 1), ZENKORV_NOT_SOUND, 1);
     check_all_refuse("a short record", part_of(m, RECORD - 1, WORDS), ZENKORV_OUTPUT_TOO_SHORT, 1);
@@ -170,16 +206,15 @@ static void check_unread(const char *name, size_t record_length, size_t word_cou
     give_back(m);
 }
 
-static struct image changed(size_t at, uint8_t byte)
+static struct image changed(struct image image, size_t at, uint8_t byte)
 {
-    struct image image = package;
     image.bytes[at] = byte;
     return image;
 }
 
-static struct image of_length(size_t length)
+/* The first bytes of an image, or all and some zeros. */
+static struct image of_length(struct image image, size_t length)
 {
-    struct image image = package;
     image.length = length;
     return image;
 }
@@ -200,17 +235,94 @@ static struct image too_many_words(void)
 
 static void check_unread_images(void)
 {
-    check_unread("cut short", RECORD, WORDS, of_length(package.length - 1), ZENKORV_CUT_SHORT);
-    check_unread("no bytes", RECORD, WORDS, of_length(0), ZENKORV_CUT_SHORT);
-    check_unread("another kind", RECORD, WORDS, changed(2, 2), ZENKORV_WRONG_KIND);
-    check_unread("another length", RECORD, WORDS, changed(0, 9), ZENKORV_WRONG_LENGTH);
-    check_unread("no segments", RECORD, WORDS, changed(4, 0), ZENKORV_BAD_FIELD);
+    check_unread("cut short", RECORD, WORDS, of_length(package, package.length - 1), ZENKORV_CUT_SHORT);
+    check_unread("no bytes", RECORD, WORDS, of_length(package, 0), ZENKORV_CUT_SHORT);
+    check_unread("another kind", RECORD, WORDS, changed(package, 2, 2), ZENKORV_WRONG_KIND);
+    check_unread("another length", RECORD, WORDS, changed(package, 0, 9), ZENKORV_WRONG_LENGTH);
+    check_unread("no segments", RECORD, WORDS, changed(package, 4, 0), ZENKORV_BAD_FIELD);
     check_unread("words pass 8,192", RECORD, WORDS, too_many_words(), ZENKORV_TOO_MANY_WORDS);
-    check_unread("a byte left", RECORD, WORDS, of_length(package.length + 1), ZENKORV_BYTES_LEFT);
+    check_unread("a byte left", RECORD, WORDS, of_length(package, package.length + 1), ZENKORV_BYTES_LEFT);
     check_unread("a short memory", RECORD, WORDS - 1, package, ZENKORV_MEMORY_TOO_SHORT);
-    check_unread("7 before the image's", RECORD, 0, of_length(0), ZENKORV_MEMORY_TOO_SHORT);
+    check_unread("7 before the image's", RECORD, 0, of_length(package, 0), ZENKORV_MEMORY_TOO_SHORT);
     check_unread("a short record", RECORD - 1, WORDS, package, ZENKORV_OUTPUT_TOO_SHORT);
-    check_unread("8 before 7", 0, 0, of_length(0), ZENKORV_OUTPUT_TOO_SHORT);
+    check_unread("8 before 7", 0, 0, of_length(package, 0), ZENKORV_OUTPUT_TOO_SHORT);
+}
+
+/* The same for zenkorv_entry and its result. */
+static void check_not_run(const char *name, struct image image, uint8_t number)
+{
+    uint8_t result[SPARE];
+    memset(result, FILLED, sizeof result);
+    expect(zenkorv_entry(image.bytes, image.length, HIGHEST, result, sizeof result) == number, name, "entry's number");
+    expect(all_filled(result, sizeof result), name, "the result has changed");
+}
+
+static void check_dead(const char *name, struct image image, uint8_t number)
+{
+    check_unread(name, RECORD, WORDS, image, number);
+    check_not_run(name, image, number);
+}
+
+/* Of first_package's image, from its end: kind 4, and the rights of its last domain on the first and the gate's segment. */
+enum { KIND_4 = 4, ON_FIRST = 8, ON_GATE = 6 };
+
+/* The image with other rights on the gate's segment. */
+static struct image with_rights(uint8_t rights)
+{
+    return changed(package, package.length - ON_GATE, rights);
+}
+
+/* 10 comes after kind 4 was read, and before bytes after it. */
+static void check_dead_images(void)
+{
+    struct image dead = with_rights(ALL_BUT_E);
+    size_t length = dead.length;
+    check_dead("no rights on the gate", with_rights(0), ZENKORV_DEAD_GATE);
+    check_dead("R, W and G on the gate", dead, ZENKORV_DEAD_GATE);
+    check_dead("a dead gate, and a byte left", of_length(dead, length + 1), ZENKORV_DEAD_GATE);
+    check_dead("a dead gate, and many bytes left", of_length(dead, IMAGE_ROOM), ZENKORV_DEAD_GATE);
+    check_dead("a dead gate, and no kind 4", of_length(dead, length - KIND_4), ZENKORV_CUT_SHORT);
+    check_dead("a dead gate, and kind 4 cut short", of_length(dead, length - 1), ZENKORV_CUT_SHORT);
+    check_dead("a dead gate, and another kind", changed(dead, length - 2, 3), ZENKORV_WRONG_KIND);
+    check_dead("a dead gate, and another length", changed(dead, length - KIND_4, 1), ZENKORV_WRONG_LENGTH);
+    check_dead("a dead gate, and a bad field", changed(dead, length - ON_FIRST, 16), ZENKORV_BAD_FIELD);
+    check_unread("7 before 10", RECORD, WORDS - 1, dead, ZENKORV_MEMORY_TOO_SHORT);
+    check_unread("8 before 10", RECORD - 1, WORDS, dead, ZENKORV_OUTPUT_TOO_SHORT);
+}
+
+/* A dead gate in the record is none in the image that is read over it; a refused one leaves it there. */
+static void check_read_over(void)
+{
+    struct image image = with_rights(0);
+    struct machine fresh = loaded(&package);
+    struct machine m = with_byte(fresh, RIGHTS_ON_GATE, 0);
+    m.words[0] ^= 1;
+    struct machine before = copy_of(m);
+    expect(read_into(m, image.bytes, image.length) == ZENKORV_DEAD_GATE, "read over", "not refused");
+    expect(same(m, before), "read over", "refused, and something has changed");
+    expect(read_into(m, package.bytes, package.length) == ZENKORV_OK, "read over", "refused");
+    expect(same(m, fresh), "read over", "another machine");
+    expect(run(m, HIGHEST) == answer(ZENKORV_HALTED, 0, 13), "read over", "another run");
+    give_back(before);
+    give_back(m);
+    give_back(fresh);
+}
+
+/* With a gate count of 0 the gate domain may be without E: the image is accepted, and written back. */
+static void check_read_without_gates(void)
+{
+    enum { KIND_1 = 12, SEGMENT_0 = 8 + 4 * 4, SEGMENT_1 = 8 + 4 * 12, GATES = KIND_1 + SEGMENT_0 + SEGMENT_1 + 4 };
+    struct image image = changed(with_rights(ALL_BUT_E), GATES, 0);
+    uint8_t result[4];
+    struct machine m = loaded(&image);
+    uint8_t *output = filled(image.length);
+    expect(m.record[GATES_2] == 0 && m.record[RIGHTS_ON_GATE] == ALL_BUT_E, "no gates", "another record");
+    expect(write_to(m, output, image.length) == image.length, "no gates", "not written");
+    expect(memcmp(output, image.bytes, image.length) == 0, "no gates", "another image");
+    expect(run(m, HIGHEST) == answer(ZENKORV_FAULTED, ZENKORV_NOT_GATE, 1), "no gates", "another run");
+    expect(zenkorv_entry(image.bytes, image.length, 1, result, sizeof result) == ZENKORV_OK, "no gates", "entry refuses");
+    free(output);
+    give_back(m);
 }
 
 int main(int argc, char **argv)
@@ -227,5 +339,8 @@ int main(int argc, char **argv)
     check_short_log("a log of one crossing", ZENKORV_CROSSING_BYTES);
     check_short_log("no log", 0);
     check_unread_images();
+    check_dead_images();
+    check_read_over();
+    check_read_without_gates();
     return told();
 }

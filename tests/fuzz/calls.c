@@ -51,6 +51,7 @@ static bool refused(const char *call, unsigned number, unsigned due)
 {
     must((due == TOO_SHORT) == (record.length < RECORD), call, "8 must mean a record that is too short");
     must(due == 0 || number == due, call, "it must be refused with the number due");
+    must(due != 0 || !has_dead_gate(record.at), call, "a record with a dead gate must be refused");
     if (due != 0)
         all_stay(call);
     return due != 0;
@@ -81,8 +82,8 @@ uint8_t read_image(void)
     uint8_t number = zenkorv_read(image.at, image.length, record.at, record.length, memory(), word_count());
     unsigned due = record.length < RECORD ? TOO_SHORT : word_count() < WORDS ? MEMORY_TOO_SHORT : 0;
     count_number(READ, number);
-    must(number <= TOO_SHORT, "read", "its number must be one of 0 to 8");
-    must(due == 0 ? number < MEMORY_TOO_SHORT : number == due, "read", "7 and 8 must be given where they are due");
+    must(number <= TOO_SHORT || number == DEAD_GATE, "read", "its number must be one of 0 to 8, or 10");
+    must(due == 0 ? number != MEMORY_TOO_SHORT && number != TOO_SHORT : number == due, "read", "7 and 8 must be given where they are due");
     if (number != 0) {
         all_stay("read");
         return number;
@@ -91,6 +92,7 @@ uint8_t read_image(void)
     must(same_but(&record, RECORD), "read", "bytes outside the record must stay");
     must(same_but(&words, 4 * words_in_use(record.at)), "read", "words outside the segments must stay");
     must(image_length(record.at) == image.length, "read", "the record must be as long as the image");
+    must(!has_dead_gate(record.at), "read", "an image with a dead gate must be refused");
     keep(&record);
     keep(&words);
     accepted_again("read");
@@ -279,7 +281,7 @@ uint8_t entry(uint16_t limit)
 {
     uint8_t number = zenkorv_entry(image.at, image.length, limit, output.at, output.length);
     count_number(ENTRY, number);
-    must(number < MEMORY_TOO_SHORT || number == TOO_SHORT, "entry", "its number must be known");
+    must(number < MEMORY_TOO_SHORT || number == TOO_SHORT || number == DEAD_GATE, "entry", "its number must be known");
     must((number == TOO_SHORT) == (output.length < 4), "entry", "8 must mean a result that is too short");
     if (number != 0) {
         all_stay("entry");

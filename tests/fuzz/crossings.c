@@ -26,6 +26,7 @@ static void follow_call(struct chain *c, const uint8_t *crossing)
     must(segment < record.at[SEGMENTS], "log", "a call must enter a segment");
     must(get16(crossing + PLACE + 1) < get16(record.at + GATES + 2 * segment), "log", "a call must enter a gate");
     must(crossing[ENTERED] == record.at[GATE_DOMAINS + segment], "log", "a call must enter the gate's domain");
+    must(crossing[ENTERED] != crossing[LEFT], "log", "a call must enter another domain, since no gate is dead");
     c->callers[c->depth++] = crossing[LEFT];
 }
 

@@ -19,7 +19,9 @@ enum {
 /* The log, and places in one of its crossings. */
 enum { LOG_BYTES = ZENKORV_LOG_BYTES, LOG_LIMIT = ZENKORV_LOG_LIMIT, CROSSING = 6, KIND = 0, LEFT = 1, ENTERED = 2, PLACE = 3 };
 
-enum { MEMORY_TOO_SHORT = 7, TOO_SHORT = 8, NOT_SOUND = 9, NO_WORD = 21, FLAG_MISSING = 22, NO_MATCH = 24, SOURCE_FAILS = 25, LAST_FAULT = 32 };
+enum { CUT_SHORT = 1, WRONG_KIND = 2, WRONG_LENGTH = 3, BYTES_LEFT = 6, MEMORY_TOO_SHORT = 7, TOO_SHORT = 8, NOT_SOUND = 9, DEAD_GATE = 10 };
+enum { NO_WORD = 21, FLAG_MISSING = 22, NO_MATCH = 24, SOURCE_FAILS = 25, LAST_FAULT = 32 };
+enum { E = 4, ALL_BUT_E = 11 };
 enum ending { HALTED, FAULTED, SPENT, CROSSED, REFUSED };
 enum mode { IMAGE, RECORD_BYTES, EDITED_IMAGE, EDITED_RECORD, MODES };
 enum call { READ, RUN, STRETCH, LOG, STEP, WRITE, SEGMENT, CHECK, RESTART, ENTRY, CALLS };
@@ -70,10 +72,13 @@ unsigned get16(const uint8_t *at);
 void put16(uint8_t *at, unsigned value);
 unsigned base_of(const uint8_t *bytes, unsigned segment);
 unsigned words_in_use(const uint8_t *bytes);
+size_t segment_at(const uint8_t *bytes, unsigned segment);
+size_t rights_at(const uint8_t *bytes, unsigned domain, unsigned segment);
 size_t image_length(const uint8_t *bytes);
+bool has_dead_gate(const uint8_t *bytes);
 void restarted(uint8_t *bytes);
 
-/* made.c: a sound record, words and an image, of the numbers drawn */
+/* made.c: a record that is sound, but for a dead gate in some, words and an image, of the numbers drawn */
 void made_layout(uint8_t *bytes);
 void made_state(uint8_t *bytes);
 void made_words(const uint8_t *bytes, uint32_t *memory);
@@ -111,6 +116,10 @@ void log_is_stretches(void);
 void write_reads_back(void);
 void read_writes_back(void);
 void entry_is_run(uint16_t limit);
-void neighbours_refused(void);
+void entry_is_refused(uint16_t limit, uint8_t number);
+void neighbours_refused(uint8_t with_more);
+void gates_need_e(unsigned segment);
+void dead_gates_mended(void);
+void dead_record_refused(unsigned segment);
 
 #endif

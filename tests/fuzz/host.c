@@ -105,6 +105,7 @@ static void every_call(const struct input *in)
     log_is_stretches();
     lend_output(in);
     if (accepted) {
+        dead_record_refused(below(record.at[SEGMENTS]));
         slices(in);
         run(in->limit);
         look(in);
@@ -115,15 +116,18 @@ static void every_call(const struct input *in)
 
 static void try_image(const struct input *in)
 {
-    bool accepted = read_image() == 0;
-    count_image(accepted);
-    if (accepted) {
+    uint8_t number = read_image();
+    count_image(number == 0);
+    if (number == 0) {
         entry_is_run(in->limit);
         read_writes_back();
-        neighbours_refused();
+        gates_need_e(below(record.at[SEGMENTS]));
+        neighbours_refused(BYTES_LEFT);
     } else {
-        entry(in->limit);
+        entry_is_refused(in->limit, number);
     }
+    if (number == DEAD_GATE)
+        dead_gates_mended();
     every_call(in);
 }
 
@@ -150,6 +154,17 @@ static void record_mode(const struct input *in)
     every_call(in);
 }
 
+/* Only a dead gate keeps a made image from being read. */
+static void made_is_read(void)
+{
+    bool dead = has_dead_gate(made);
+    must(read_image() == (dead ? DEAD_GATE : 0), "read", "a made image must be accepted, or refused with 10 for a dead gate");
+    if (dead)
+        return;
+    must(memcmp(record.at, made, RECORD) == 0, "read", "a made image must give its record");
+    must(memcmp(words.at, made_memory, 4 * words_in_use(made)) == 0, "read", "a made image must give its words");
+}
+
 static void edited_image_mode(const struct input *in)
 {
     made_layout(made);
@@ -159,11 +174,8 @@ static void edited_image_mode(const struct input *in)
     for (size_t k = 0; k < in->edits; k++)
         image.at[get16(in->rest + EDIT * k) % image.length] = in->rest[EDIT * k + 2];
     keep(&image);
-    if (in->edits == 0 && record.length >= RECORD && words.length >= 4 * WORDS) {
-        must(read_image() == 0, "read", "a made image must be accepted");
-        must(memcmp(record.at, made, RECORD) == 0, "read", "a made image must give its record");
-        must(memcmp(words.at, made_memory, 4 * words_in_use(made)) == 0, "read", "a made image must give its words");
-    }
+    if (in->edits == 0 && record.length >= RECORD && words.length >= 4 * WORDS)
+        made_is_read();
     try_image(in);
 }
 
@@ -179,7 +191,7 @@ static void edited_record_mode(const struct input *in)
     keep(&record);
     keep(&words);
     if (in->edits == 0 && record.length >= RECORD && words.length >= 4 * WORDS)
-        must(run(0) == 0x2000000, "run", "a made record must be accepted");
+        must(run(0) == (has_dead_gate(made) ? 0x4090000 : 0x2000000), "run", "a made record must be accepted, or refused for a dead gate");
     every_call(in);
 }
 

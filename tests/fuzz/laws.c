@@ -1,6 +1,7 @@
 /* What holds between calls. */
 #include <string.h>
 
+#include "chunks.h"
 #include "fuzz.h"
 
 enum { RECORD_ROOM = 4096, WORDS_ROOM = 36864 };
@@ -165,16 +166,125 @@ void entry_is_run(uint16_t limit)
     restore(&before);
 }
 
-/* An accepted image is refused without its last byte, and with one more. */
-void neighbours_refused(void)
+/* After a refused read: the entry gives the image's number, too. */
+void entry_is_refused(uint16_t limit, uint8_t number)
+{
+    uint8_t other = entry(limit);
+    if (number != MEMORY_TOO_SHORT && number != TOO_SHORT)
+        must(other == (output.length < 4 ? TOO_SHORT : number), "entry", "its refusal must be that of a read");
+}
+
+/* An image that is accepted, or has a dead gate, is refused without its last byte, and with one more. All is put back. */
+void neighbours_refused(uint8_t with_more)
 {
     save(&before);
     uint8_t *at = image.at;
     image.length--;
-    must(read_image() == 1, "read", "an image without its last byte must be refused with 1");
+    must(read_image() == CUT_SHORT, "read", "an image without its last byte must be refused with 1");
     lend(&image, image.length + 2);
     memmove(image.at, at, image.length - 1);
     keep(&image);
-    must(read_image() == 6, "read", "an image with a byte more must be refused with 6");
+    must(read_image() == with_more, "read", "an image with a byte more must be refused with 6, or 10 for a dead gate");
     must(same_as(&before), "read", "refused reads must leave record and words");
+    lend(&image, image.length - 1);
+    memmove(image.at, image.at - 1, image.length);
+    keep(&image);
+}
+
+/* The number of the image with another byte in it. All is put back. */
+static uint8_t number_with(size_t at, uint8_t byte)
+{
+    uint8_t kept = image.at[at];
+    save(&before);
+    image.at[at] = byte;
+    keep(&image);
+    uint8_t number = read_image();
+    image.at[at] = kept;
+    keep(&image);
+    restore(&before);
+    return number;
+}
+
+/* An image with a dead gate: kind 4 is judged before it, bytes after kind 4 are not. */
+static void dead_image_refused(void)
+{
+    must(read_image() == DEAD_GATE, "read", "a gate without E must be refused with 10");
+    must(number_with(image.length - 2, 3) == WRONG_KIND, "read", "a kind that is not 4 must come before a dead gate");
+    must(number_with(image.length - 4, 1) == WRONG_LENGTH, "read", "a wrong length of kind 4 must come before a dead gate");
+    neighbours_refused(DEAD_GATE);
+}
+
+/* After an accepted read: a segment's gates need E and no other flag, and where it has none nothing is needed. */
+void gates_need_e(unsigned segment)
+{
+    size_t count = segment_at(record.at, segment) + 4;
+    size_t rights = rights_at(record.at, record.at[GATE_DOMAINS + segment], segment);
+    bool gates = get16(image.at + count) != 0;
+    uint8_t kept = image.at[rights];
+    must(number_with(rights, E) == 0, "read", "gates must be accepted with E alone");
+    must(gates || number_with(rights, ALL_BUT_E) == 0, "read", "without gates no E must be needed");
+    image.at[rights] = ALL_BUT_E;
+    if (!gates)
+        put16(image.at + count, 1);
+    keep(&image);
+    dead_image_refused();
+    image.at[rights] = kept;
+    if (!gates)
+        put16(image.at + count, 0);
+    keep(&image);
+}
+
+/* Gives the domain of a segment's gates E, in the image. Tells whether it had none. */
+static bool mended(unsigned segment)
+{
+    size_t gates = chunk_at(image.at, image.length, 1 + segment) + 4;
+    size_t rights = chunk_at(image.at, image.length, 1u + image.at[4] + image.at[gates + 2]) + 5 + segment;
+    if (get16(image.at + gates) == 0 || (image.at[rights] & E) != 0)
+        return false;
+    image.at[rights] |= E;
+    return true;
+}
+
+/* After a read that was refused with 10: with E for all gates the image is accepted, or has bytes left. */
+void dead_gates_mended(void)
+{
+    unsigned dead = 0;
+    for (unsigned s = 0; s < image.at[4]; s++)
+        dead += mended(s);
+    keep(&image);
+    must(dead != 0, "read", "10 must mean a dead gate");
+    uint8_t number = read_image();
+    must(number == 0 || number == BYTES_LEFT, "read", "10 must be given where nothing else but 6 is due");
+}
+
+static void each_call_refuses(void)
+{
+    must(run(1) == 0x4090000, "run", "a record with a dead gate must be refused with 9");
+    stretch(1);
+    run_logged();
+    step();
+    write_image();
+    segment_part(0);
+    check(0, 0, 0, 0);
+    restart();
+}
+
+/* Of an accepted record, as of an image: gates need E, and where there are none nothing is needed. All is put back. */
+void dead_record_refused(unsigned segment)
+{
+    uint8_t *gates = record.at + GATES + 2 * segment;
+    uint8_t *rights = record.at + RIGHTS + 16 * record.at[GATE_DOMAINS + segment] + segment;
+    save(&before);
+    *rights = E;
+    keep(&record);
+    must(run(0) == 0x2000000, "run", "gates must be accepted with E alone");
+    *rights = ALL_BUT_E;
+    keep(&record);
+    if (get16(gates) == 0) {
+        must(run(0) == 0x2000000, "run", "without gates no E must be needed");
+        put16(gates, 1);
+        keep(&record);
+    }
+    each_call_refuses();
+    restore(&before);
 }

@@ -1,4 +1,4 @@
-/* Sound records, words that are often instructions and lists of arguments, and images of both. */
+/* Records that are sound, but for a dead gate in some; words that are often instructions and lists of arguments; images of both. */
 #include <string.h>
 
 #include "fuzz.h"
@@ -37,7 +37,7 @@ static void made_segments(uint8_t *bytes, unsigned segments, unsigned domains)
         unsigned length = made_length(left - (segments - 1 - s));
         left -= length;
         put16(bytes + LENGTHS + 2 * s, length);
-        put16(bytes + GATES + 2 * s, one_in(2) ? length : below(length + 1));
+        put16(bytes + GATES + 2 * s, is_list(s) && !one_in(4) ? 0 : one_in(2) ? length : below(length + 1));
         bytes[GATE_DOMAINS + s] = (uint8_t)below(domains);
     }
 }
@@ -49,9 +49,17 @@ static void made_domains(uint8_t *bytes, unsigned segments, unsigned domains)
         for (unsigned s = 0; s < segments; s++)
             bytes[RIGHTS + 16 * d + s] = made_rights(s);
     }
-    for (unsigned s = 0; s < segments; s += 2)
-        if (!one_in(8))
-            bytes[RIGHTS + 16 * bytes[GATE_DOMAINS + s] + s] |= 4;
+}
+
+/* Gates have E, also code without gates mostly; in one layout of sixteen E is taken from a segment, which may have gates. */
+static void made_gates(uint8_t *bytes, unsigned segments)
+{
+    for (unsigned s = 0; s < segments; s++)
+        if (get16(bytes + GATES + 2 * s) != 0 || (!is_list(s) && !one_in(8)))
+            bytes[RIGHTS + 16 * bytes[GATE_DOMAINS + s] + s] |= E;
+    unsigned taken = below(segments);
+    if (one_in(16))
+        bytes[RIGHTS + 16 * bytes[GATE_DOMAINS + taken] + taken] &= ALL_BUT_E;
 }
 
 void made_layout(uint8_t *bytes)
@@ -61,6 +69,7 @@ void made_layout(uint8_t *bytes)
     memset(bytes, 0, RECORD);
     made_segments(bytes, segments, domains);
     made_domains(bytes, segments, domains);
+    made_gates(bytes, segments);
     put16(bytes + START, one_in(16) ? below(4096) : one_in(4) ? below(4) : 0);
     bytes[START + 2] = made_segment(segments, false);
     bytes[START + 3] = one_in(8) ? (uint8_t)below(domains) : bytes[GATE_DOMAINS + bytes[START + 2]];

@@ -1,4 +1,4 @@
-/* Writes inputs to start from: for an image file it as an image, its record and words, and those some instructions on; else numbers for made ones, and edits to some. */
+/* Writes inputs to start from: for an image file it as an image, its record and words, those some instructions on, and some with a dead gate; else numbers for made ones, and edits to some. */
 #include <stdio.h>
 #include <stdlib.h>
 #include <string.h>
@@ -54,11 +54,38 @@ static void write_record(const char *folder, const char *name, const char *kind,
 static void write_longer(const char *folder, const char *name, size_t length)
 {
     unsigned last = held[SEGMENTS] - 1u;
-    uint8_t *at = bytes + 12 + 8 * last + 4 * base_of(held, last);
+    uint8_t *at = bytes + segment_at(held, last);
     FILE *file = begin(folder, name, "longer", IMAGE, 0);
     put16(at, get16(at) + 4);
     put(file, bytes, length);
     fclose(file);
+}
+
+/* A segment with gates, or else segment 0. */
+static unsigned gate_segment(void)
+{
+    unsigned s = held[SEGMENTS] - 1u;
+    while (s > 0 && get16(held + GATES + 2 * s) == 0)
+        s--;
+    return s;
+}
+
+/* The image with E taken from a gate's domain, the same with a byte more, and its record. All is put back. */
+static void write_dead(const char *folder, const char *name, size_t length)
+{
+    unsigned segment = gate_segment();
+    unsigned domain = held[GATE_DOMAINS + segment];
+    uint8_t *in_image = bytes + rights_at(held, domain, segment);
+    uint8_t *in_record = held + RIGHTS + 16 * domain + segment;
+    uint8_t rights = *in_record;
+    *in_image = *in_record = rights & ALL_BUT_E;
+    for (unsigned more = 0; more < 2; more++) {
+        FILE *file = begin(folder, name, more == 0 ? "dead" : "dead_and_one", IMAGE, 0);
+        put(file, bytes, length + more);
+        fclose(file);
+    }
+    write_record(folder, name, "dead_record", 0);
+    *in_image = *in_record = rights;
 }
 
 static void of_image(const char *folder, const char *name, size_t length)
@@ -68,6 +95,7 @@ static void of_image(const char *folder, const char *name, size_t length)
     fclose(file);
     if (zenkorv_read(bytes, length, held, RECORD, memory, WORDS) != 0)
         return;
+    write_dead(folder, name, length);
     write_longer(folder, name, length);
     write_record(folder, name, "record", 0);
     for (unsigned k = 1; k <= 4; k++) {

@@ -1,6 +1,9 @@
 /* The calls made wrong on purpose, one at a time: WRONG in the environment says which. The linker puts them before the library's. */
 #include <stdlib.h>
+#include <string.h>
 
+#include "chunks.h"
+#include "wrong_gates.h"
 #include "zenkorv.h"
 
 #define WRAPPED(type, name, ...) \
@@ -32,10 +35,126 @@ static void put_back(const uint8_t *record, uint8_t tag)
         ((uint8_t *)record)[233] = tag;
 }
 
-/* 1: a refused read leaves a byte of the record behind; 2: an accepted one writes past the record; 3: or past the segments. */
+/* 27: no gate is dead; 28: R is taken for E; 29: a count of 0 is judged too; 30: the rights of domain 0 are judged; 31: the last segment is not. */
+static enum way way(void)
+{
+    return wrong(27) ? NEVER : wrong(28) ? BY_R : wrong(29) ? WITHOUT_GATES : wrong(30) ? BY_DOMAIN_0 : wrong(31) ? NOT_THE_LAST : AS_IT_IS;
+}
+
+/* An image as it is read in the wrong way: mended, with its number if no gate were dead, and whether one is. */
+static struct {
+    uint8_t bytes[40960];
+    uint8_t original[40960];
+    struct gates gates[16];
+    unsigned count;
+    uint8_t number;
+    bool dead;
+} seen;
+
+uint8_t __real_zenkorv_read(const uint8_t *image, size_t image_length, uint8_t *record, size_t record_length, uint32_t *words, size_t word_count);
+
+/* The number of a read into a machine of its own. */
+static uint8_t tried(const uint8_t *image, size_t image_length)
+{
+    static uint8_t record[919];
+    static uint32_t words[8192];
+    return __real_zenkorv_read(image, image_length, record, 919, words, 8192);
+}
+
+static void see(const uint8_t *image, size_t image_length)
+{
+    memcpy(seen.bytes, image, image_length);
+    memcpy(seen.original, image, image_length);
+    seen.count = gates_of_image(seen.bytes, image_length, seen.gates);
+    seen.dead = one_is_dead(way(), seen.gates, seen.count);
+    mend(seen.gates, seen.count);
+    seen.number = tried(seen.bytes, image_length);
+}
+
+/* Whether nothing but kind 4, and what follows it, is wrong with the image that was seen. */
+static bool good_up_to_kind_4(size_t image_length)
+{
+    static const uint8_t kind_4[] = { 0, 0, 4, 0 };
+    static uint8_t cut[40964];
+    size_t at = chunk_at(seen.bytes, image_length, 1u + seen.bytes[4] + seen.bytes[5]);
+    if (seen.count == 0 || at > image_length)
+        return false;
+    memcpy(cut, seen.bytes, at);
+    memcpy(cut + at, kind_4, 4);
+    return tried(cut, at + 4) == 0;
+}
+
+/* 32: 10 comes after 6; 33: it comes before kind 4 is read. */
+static uint8_t number_seen(size_t image_length)
+{
+    if (!seen.dead)
+        return seen.number;
+    if (wrong(33) && good_up_to_kind_4(image_length))
+        return 10;
+    return seen.number == 0 || (seen.number == 6 && !wrong(32)) ? 10 : seen.number;
+}
+
+static bool sees_images_wrong(void)
+{
+    return way() != AS_IT_IS || wrong(32) || wrong(33);
+}
+
+/* A read in the wrong way. */
+static uint8_t read_as_seen(const uint8_t *image, size_t image_length, uint8_t *record, uint32_t *words)
+{
+    see(image, image_length);
+    uint8_t number = number_seen(image_length);
+    if (number != 0)
+        return number;
+    __real_zenkorv_read(seen.bytes, image_length, record, 919, words, 8192);
+    for (unsigned s = 0; s < seen.count; s++)
+        record[92 + 16 * seen.gates[s].domain + s] = seen.original[seen.gates[s].rights - seen.bytes];
+    return 0;
+}
+
+static bool has_dead(const uint8_t *record)
+{
+    struct gates gates[16];
+    return one_is_dead(AS_IT_IS, gates, gates_of_record((uint8_t *)record, gates));
+}
+
+/* 35: no gate is dead to calls on a record, though it is to the reader. */
+static enum way way_of_records(void)
+{
+    return wrong(35) ? NEVER : way();
+}
+
+static uint8_t layout[222];
+
+/* Before a call on a record: it is made one that is not sound where a gate is dead in the wrong way, else it is mended. */
+static void bend(const uint8_t *lent, size_t record_length)
+{
+    struct gates gates[16];
+    uint8_t *record = (uint8_t *)lent;
+    if (way_of_records() == AS_IT_IS || record_length < 919)
+        return;
+    memcpy(layout, record, sizeof layout);
+    unsigned count = gates_of_record(record, gates);
+    if (one_is_dead(way_of_records(), gates, count))
+        record[220] = 0;
+    else
+        mend(gates, count);
+}
+
+static void unbend(const uint8_t *lent, size_t record_length)
+{
+    if (way_of_records() != AS_IT_IS && record_length >= 919)
+        memcpy((uint8_t *)lent, layout, sizeof layout);
+}
+
+/* 1: a refused read leaves a byte of the record behind; 2: an accepted one writes past the record; 3: or past the segments; 34: one refused with 10 writes a word. */
 WRAPPED(uint8_t, read, const uint8_t *image, size_t image_length, uint8_t *record, size_t record_length, uint32_t *words, size_t word_count)
 {
+    if (sees_images_wrong() && record_length >= 919 && word_count >= 8192)
+        return read_as_seen(image, image_length, record, words);
     uint8_t number = __real_zenkorv_read(image, image_length, record, record_length, words, word_count);
+    if (wrong(34) && number == 10)
+        words[0] ^= 1;
     if (wrong(1) && number == 4)
         record[300] ^= 1;
     if (wrong(2) && number == 0 && record_length > 919)
@@ -49,7 +168,9 @@ WRAPPED(uint8_t, read, const uint8_t *image, size_t image_length, uint8_t *recor
 WRAPPED(uint32_t, run, uint8_t *record, size_t record_length, uint32_t *words, size_t word_count, uint16_t limit)
 {
     uint8_t tag_taken = take_tag(record, record_length);
+    bend(record, record_length);
     uint32_t code = __real_zenkorv_run(record, record_length, words, word_count, limit);
+    unbend(record, record_length);
     if (code >> 24 == 4)
         put_back(record, tag_taken);
     if (wrong(4) && code == 0x4090000)
@@ -63,7 +184,9 @@ WRAPPED(uint32_t, run, uint8_t *record, size_t record_length, uint32_t *words, s
 WRAPPED(uint32_t, stretch, uint8_t *record, size_t record_length, uint32_t *words, size_t word_count, uint16_t limit)
 {
     uint8_t tag_taken = take_tag(record, record_length);
+    bend(record, record_length);
     uint32_t code = __real_zenkorv_stretch(record, record_length, words, word_count, limit);
+    unbend(record, record_length);
     if (code >> 24 == 4)
         put_back(record, tag_taken);
     if (wrong(7) && code >> 24 == 3)
@@ -110,7 +233,9 @@ WRAPPED(uint32_t, log, uint8_t *record, size_t record_length, uint32_t *words, s
     if (wrong(25) && log_length < 6000)
         return 0x4080000;
     uint8_t tag_taken = take_tag(record, record_length);
+    bend(record, record_length);
     uint32_t code = __real_zenkorv_log(record, record_length, words, word_count, log, log_length, calls, returns);
+    unbend(record, record_length);
     if (code >> 24 != 4) {
         spoil_log(log, log_length, calls, returns);
         return code;
@@ -127,7 +252,9 @@ WRAPPED(uint32_t, log, uint8_t *record, size_t record_length, uint32_t *words, s
 WRAPPED(uint16_t, step, uint8_t *record, size_t record_length, uint32_t *words, size_t word_count)
 {
     uint8_t tag_taken = take_tag(record, record_length);
+    bend(record, record_length);
     uint16_t code = __real_zenkorv_step(record, record_length, words, word_count);
+    unbend(record, record_length);
     if (code != 0)
         put_back(record, tag_taken);
     if (wrong(8) && code == 24)
@@ -137,17 +264,19 @@ WRAPPED(uint16_t, step, uint8_t *record, size_t record_length, uint32_t *words, 
     return code;
 }
 
-/* 10: a byte past the image is written; 11: a byte of the image is another. */
+/* 10: a byte past the image is written; 11: a byte of the image is another; 37: a record with a dead gate gives 10. */
 WRAPPED(uint32_t, write, const uint8_t *record, size_t record_length, const uint32_t *words, size_t word_count, uint8_t *output, size_t output_length)
 {
     uint8_t tag_taken = take_tag(record, record_length);
+    bend(record, record_length);
     uint32_t code = __real_zenkorv_write(record, record_length, words, word_count, output, output_length);
+    unbend(record, record_length);
     put_back(record, tag_taken);
     if (wrong(10) && code < output_length)
         output[code] ^= 1;
     if (wrong(11) && code < 0x10000)
         output[20] ^= 1;
-    return code;
+    return wrong(37) && code == 0x10009 && has_dead(record) ? 0x1000A : code;
 }
 
 /* 12: refused, it gives a count; 13: its part begins a word late. */
@@ -155,7 +284,9 @@ WRAPPED(uint8_t, segment, const uint8_t *record, size_t record_length, const uin
         uint16_t *count)
 {
     uint8_t tag_taken = take_tag(record, record_length);
+    bend(record, record_length);
     uint8_t number = __real_zenkorv_segment(record, record_length, words, word_count, segment, first, count);
+    unbend(record, record_length);
     put_back(record, tag_taken);
     if (wrong(12) && number == 21)
         *count = 0;
@@ -168,7 +299,9 @@ WRAPPED(uint8_t, segment, const uint8_t *record, size_t record_length, const uin
 WRAPPED(uint32_t, check, const uint8_t *record, size_t record_length, uint8_t write, uint8_t tag, uint8_t segment, uint16_t word)
 {
     uint8_t tag_taken = take_tag(record, record_length);
+    bend(record, record_length);
     uint32_t code = __real_zenkorv_check(record, record_length, wrong(14) ? 0 : write, tag, segment, word);
+    unbend(record, record_length);
     put_back(record, tag_taken);
     return wrong(15) && code == 0x10000 + 25 ? 0x10000 + 22 : code;
 }
@@ -178,7 +311,9 @@ WRAPPED(uint8_t, restart, uint8_t *record, size_t record_length)
 {
     uint8_t tag_taken = take_tag(record, record_length);
     uint8_t a = record_length < 919 ? 0 : record[222];
+    bend(record, record_length);
     uint8_t number = __real_zenkorv_restart(record, record_length);
+    unbend(record, record_length);
     if (number != 0)
         put_back(record, tag_taken);
     if (wrong(16) && number == 0)
@@ -186,9 +321,14 @@ WRAPPED(uint8_t, restart, uint8_t *record, size_t record_length)
     return number;
 }
 
-/* 17: its count is of one more; 18: a byte past the result is written. */
+/* 17: its count is of one more; 18: a byte past the result is written; 36: it runs an image with a dead gate. */
 WRAPPED(uint8_t, entry, const uint8_t *image, size_t image_length, uint16_t limit, uint8_t *result, size_t result_length)
 {
+    if (sees_images_wrong() || wrong(36)) {
+        see(image, image_length);
+        uint8_t refusal = wrong(36) ? seen.number : number_seen(image_length);
+        return refusal != 0 && result_length >= 4 ? refusal : __real_zenkorv_entry(seen.bytes, image_length, limit, result, result_length);
+    }
     uint8_t number = __real_zenkorv_entry(image, image_length, limit, result, result_length);
     if (wrong(17) && number == 0 && result[0] == 1)
         result[2] += 1;
