@@ -1,4 +1,4 @@
--- An image in which a domain calls a gate: the start of the thesis's protected subsystems.
+-- An image whose first instruction is a call through a gate.
 use Prim.Native.Nat.{ℕ}
 use mathlib.Core.List.{List, [], _∷_}
 
