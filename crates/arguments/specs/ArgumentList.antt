@@ -23,16 +23,19 @@ use Rattle.addressing.specs.Effective.{displacedBy}
 unfoldable pub listWord : Reader → Pointer → ℕ → Answer ℕ
 listWord read a k = displacedBy a (pos k) >>= read
 
--- an untagged argument's source is the caller; a tagged one's is passed on
+-- an untagged argument's source is the caller; a tagged one's is passed on; the list itself counts as an argument, at a
 unfoldable pub sourceOf : ℕ → ℕ → Frame → Pointer → Mode → Answer ℕ
 sourceOf caller depth live p m =
     if p .tag then passedOf depth live (p .segment) (p .word) (m .length) (m .read) (m .write) else ok caller
 
+-- the capability on the words that a pointer and a mode name
+abbrev pub capabilityOn : Pointer → Mode → ℕ → Capability
+capabilityOn p m source = record { word = p .word; length = m .length; segment = p .segment; source = source; read = m .read; write = m .write }
+
 -- the capability of an argument, of its pointer and its mode word
 unfoldable pub capabilityOf : ℕ → ℕ → Frame → Pointer → ℕ → Answer Capability
 capabilityOf caller depth live p mode =
-    modeOf mode (p .word) >>= (λ m. sourceOf caller depth live p m >>= (λ source.
-    ok (record { word = p .word; length = m .length; segment = p .segment; source = source; read = m .read; write = m .write })))
+    modeOf mode (p .word) >>= (λ m. sourceOf caller depth live p m >>= (λ source. ok (capabilityOn p m source)))
 
 -- the pointer in word k of the list
 unfoldable pub listPointer : Reader → Pointer → ℕ → Answer Pointer
@@ -49,26 +52,30 @@ argumentsFrom read a caller depth live zero i rows = ok rows
 argumentsFrom read a caller depth live (suc k) i rows =
     argumentOf read a caller depth live i >>= (λ c. argumentsFrom read a caller depth live k (i + 1) (set rows i c))
 
+-- the list as an argument: its whole 3 + 2n words, to read
+abbrev pub listMode : ℕ → Mode
+listMode n = record { length = 3 + 2 * n; read = true; write = false }
+
 -- the read capability for the list itself
 abbrev pub listCapability : Pointer → ℕ → ℕ → Capability
-listCapability a caller n = record { word = a .word; length = 3 + 2 * n; segment = a .segment; source = caller; read = true; write = false }
+listCapability a source n = capabilityOn a (listMode n) source
 
 -- the frame with the rows of n arguments, and last the list itself
-abbrev pub filledOf : List Capability → Pointer → Pointer → Pointer → ℕ → ℕ → Frame
-filledOf rows a s back caller n =
-    record { capabilities = set rows n (listCapability a caller n); s = s; back = back; count = n + 1; domain = caller }
+abbrev pub filledOf : List Capability → Capability → Pointer → Pointer → ℕ → ℕ → Frame
+filledOf rows list s back caller n = record { capabilities = set rows n list; s = s; back = back; count = n + 1; domain = caller }
 
--- from the return location on: it is untagged; word 2 is not read; then the n arguments
-unfoldable pub frameAfter : Reader → Pointer → Pointer → ℕ → ℕ → Frame → ℕ → Answer Frame
-frameAfter read a s caller depth live n =
+-- from the return location on, with the list's capability: the location is untagged; word 2 is not read; then the n arguments
+unfoldable pub frameAfter : Reader → Pointer → Pointer → ℕ → ℕ → Frame → Capability → ℕ → Answer Frame
+frameAfter read a s caller depth live list n =
     listPointer read a 1 >>= (λ back. require (not (back .tag)) badArgument >>
     (displacedBy a (pos 2) >>
-    (argumentsFrom read a caller depth live n 0 (replicate 9 noCapability) >>= (λ rows. ok (filledOf rows a s back caller n)))))
+    (argumentsFrom read a caller depth live n 0 (replicate 9 noCapability) >>= (λ rows. ok (filledOf rows list s back caller n)))))
 
--- the frame of a call: word 0 of the list is the number of arguments
+-- the frame of a call: word 0 of the list is the number of arguments; then the list's source, passed on where a is tagged; then the other words
 unfoldable pub frameOf : Reader → Pointer → Pointer → ℕ → ℕ → Frame → Answer Frame
 frameOf read a s caller depth live =
-    listWord read a 0 >>= (λ n. require (leb n 8) badArgument >> frameAfter read a s caller depth live n)
+    listWord read a 0 >>= (λ n. require (leb n 8) badArgument >>
+    (sourceOf caller depth live a (listMode n) >>= (λ source. frameAfter read a s caller depth live (listCapability a source n) n)))
 
 -- the code's answer: a frame made, or a refusal by its number with the live frame as it came in
 abbrev pub framedBy : Frame → Answer Frame → Framed

@@ -7,7 +7,7 @@ ghost use Rattle.state.specs.Record.{noCapability};
 ghost use Rattle.capabilities.specs.Search.{capabilityAnswer};
 ghost use Rattle.references.specs.Live.{sourceAnswer};
 ghost use Rattle.memory.specs.Reader.{readOf, wordAnswer};
-ghost use Rattle.arguments.specs.ArgumentList.{listWord, sourceOf, capabilityOf, argumentOf, argumentsFrom, filledOf, frameAfter, frameOf, framedBy};
+ghost use Rattle.arguments.specs.ArgumentList.{listWord, sourceOf, capabilityOn, capabilityOf, argumentOf, argumentsFrom, listMode, filledOf, frameAfter, frameOf, framedBy};
 ghost use Rattle.arguments.specs.Private.{rowsAnswer};
 use capabilities::CapabilityAnswer;
 use memory::WordAnswer;
@@ -49,7 +49,7 @@ fn list_word<'a>(
     }
 }
 
-// An untagged argument's source is the caller; a tagged one's is passed on.
+// An untagged argument's source is the caller; a tagged one's is passed on. The list itself counts as an argument, at a.
 fn source(caller: u8, depth: u8, frame: Frame, p: Pointer, m: Mode) -> SourceAnswer
     ensures { λ r. ⌜ sourceAnswer r ≡ sourceOf caller depth frame p m ⌝ }
 {
@@ -57,6 +57,20 @@ fn source(caller: u8, depth: u8, frame: Frame, p: Pointer, m: Mode) -> SourceAns
         pass_on(depth, frame, p.segment, p.word, m.length, m.read, m.write)
     } else {
         SourceAnswer::Source(caller)
+    }
+}
+
+// The capability on the words that a pointer and a mode name.
+fn capability_on(p: Pointer, m: Mode, source: u8) -> Capability
+    ensures { λ c. ⌜ c ≡ capabilityOn p m source ⌝ }
+{
+    Capability {
+        word: p.word,
+        length: m.length,
+        segment: p.segment,
+        source,
+        read: m.read,
+        write: m.write,
     }
 }
 
@@ -68,14 +82,9 @@ fn capability(caller: u8, depth: u8, frame: Frame, p: Pointer, mode: u32) -> Cap
         ModeAnswer::Refused(n) => CapabilityAnswer::Refused(n),
         ModeAnswer::Mode(m) => match source(caller, depth, frame, p, m) {
             SourceAnswer::Refused(n) => CapabilityAnswer::Refused(n),
-            SourceAnswer::Source(source) => CapabilityAnswer::Capability(Capability {
-                word: p.word,
-                length: m.length,
-                segment: p.segment,
-                source,
-                read: m.read,
-                write: m.write,
-            }),
+            SourceAnswer::Source(source) => {
+                CapabilityAnswer::Capability(capability_on(p, m, source))
+            }
         },
     }
 }
@@ -209,19 +218,30 @@ fn refuse(frame: Frame, number: u8) -> Framed
     }
 }
 
-// The frame with the rows of n arguments, and last the capability for the list itself.
-fn filled(rows: [Capability; 9], a: Pointer, s: Pointer, back: Pointer, caller: u8, n: u8) -> Frame
+// The list as an argument: its whole 3 + 2n words, to read.
+fn list_mode(n: u8) -> Mode
     requires { ⌜ n ≤ 8 ⌝ }
-    ensures { λ f. ⌜ f ≡ filledOf rows a s back caller n ⌝ }
+    ensures { λ m. ⌜ m ≡ listMode n ⌝ }
 {
-    let list = Capability {
-        word: a.word,
+    Mode {
         length: 3 + 2 * (n as u16),
-        segment: a.segment,
-        source: caller,
         read: true,
         write: false,
-    };
+    }
+}
+
+// The frame with the rows of n arguments, and last the capability for the list itself.
+fn filled(
+    rows: [Capability; 9],
+    list: Capability,
+    s: Pointer,
+    back: Pointer,
+    caller: u8,
+    n: u8,
+) -> Frame
+    requires { ⌜ n ≤ 8 ⌝ }
+    ensures { λ f. ⌜ f ≡ filledOf rows list s back caller n ⌝ }
+{
     let capabilities = with_row(rows, n, list);
     Frame {
         capabilities,
@@ -232,7 +252,7 @@ fn filled(rows: [Capability; 9], a: Pointer, s: Pointer, back: Pointer, caller: 
     }
 }
 
-// The frame of a call with n arguments, from the return location on.
+// The frame of a call with n arguments, from the return location on, with the list's capability.
 fn frame_after<'a>(
     lengths: &'a [u16; 16],
     rights: &'a [u8; 128],
@@ -243,10 +263,11 @@ fn frame_after<'a>(
     frame: Frame,
     a: Pointer,
     s: Pointer,
+    list: Capability,
     n: u8,
 ) -> Framed
     requires { ⌜ n ≤ 8 ⌝ }
-    ensures { λ r. ⌜ r ≡ framedBy frame (frameAfter (readOf (now (lengths .entry)) (now (rights .entry)) (now (bases .entry)) (now (words .entry)) domain depth frame) a s domain depth frame n) ⌝ }
+    ensures { λ r. ⌜ r ≡ framedBy frame (frameAfter (readOf (now (lengths .entry)) (now (rights .entry)) (now (bases .entry)) (now (words .entry)) domain depth frame) a s domain depth frame list n) ⌝ }
 {
     match list_word(lengths, rights, bases, words, domain, depth, frame, a, 1) {
         WordAnswer::Refused(number) => refuse(frame, number),
@@ -274,7 +295,7 @@ fn frame_after<'a>(
                             return refuse(frame, r.number);
                         }
                         let rows = r.rows;
-                        let made = filled(rows, a, s, back, domain, n);
+                        let made = filled(rows, list, s, back, domain, n);
                         Framed {
                             frame: made,
                             number: 0,
@@ -308,7 +329,26 @@ pub fn make_frame<'a>(
                 return refuse(frame, 30);
             }
             let n = (w % 256) as u8;
-            frame_after(lengths, rights, bases, words, domain, depth, frame, a, s, n)
+            let mode = list_mode(n);
+            match source(domain, depth, frame, a, mode) {
+                SourceAnswer::Refused(number) => refuse(frame, number),
+                SourceAnswer::Source(source) => {
+                    let list = capability_on(a, mode, source);
+                    frame_after(
+                        lengths,
+                        rights,
+                        bases,
+                        words,
+                        domain,
+                        depth,
+                        frame,
+                        a,
+                        s,
+                        list,
+                        n,
+                    )
+                }
+            }
         }
     }
 }

@@ -60,14 +60,15 @@ mode-sound w start =
     tests (ModeSound start) _ (leb 1 (field 0 13 w)) (leb (field 0 13 w) 4096) (eqb (field 13 17 w) 0) (leb 1 (field 30 2 w)) (leb (start + field 0 13 w) 4096)
     (λ t. record { some = leb-true _ _ (t .0 .0); most = leb-true _ _ (t .0 .1); end = leb-true _ _ (t .1 .1); flags = one-flag w (t .1 .0) })
 
--- a capability that is found is one of the run
-first-is : (P : Capability → Type 0) (fits : Capability → Bool) (n : ℕ) (cs : List Capability) → ((j : ℕ) → j < n → P (getD cs j noCapability)) → Says P (firstOf fits (take n cs))
+-- a capability that is found is one of the run, and fits
+pub first-is : (P : Capability → Type 0) (fits : Capability → Bool) (n : ℕ) (cs : List Capability)
+    → ((j : ℕ) → j < n → fits (getD cs j noCapability) ≡ true → P (getD cs j noCapability)) → Says P (firstOf fits (take n cs))
 unfolding firstOf
 first-is P fits zero [] h = tt
 first-is P fits zero (c ∷ cs) h = tt
 first-is P fits (suc n) [] h = tt
 first-is P fits (suc n) (c ∷ cs) h =
-    says-if P (fits c) (ok c) (firstOf fits (take n cs)) (λ _. h 0 (omega arith)) (λ _. first-is P fits n cs (λ j l. h (suc j) (omega arith)))
+    says-if P (fits c) (ok c) (firstOf fits (take n cs)) (h 0 (omega arith)) (λ _. first-is P fits n cs (λ j l. h (suc j) (omega arith)))
 
 -- the capabilities of the live frame, where there is one
 abbrev pub LiveSound : ℕ → ℕ → Frame → Type 0
@@ -81,14 +82,14 @@ module _ (domains caller depth : ℕ) (live : Frame) (known : caller < domains) 
   unfolding liveMatch
   match-sound fits =
       says-if (CapabilitySound domains) (eqb depth 0) (refuse 24) (firstOf fits (take (live .count) (live .capabilities))) (λ _. tt)
-      (λ e. first-is (CapabilitySound domains) fits (live .count) (live .capabilities) (sound (eqb-false depth 0 e)))
+      (λ e. first-is (CapabilitySound domains) fits (live .count) (live .capabilities) (λ j l _. sound (eqb-false depth 0 e) j l))
 
   passed-sound : (s w n : ℕ) (read write : Bool) → Says Source (passedOf depth live s w n read write)
   unfolding passedOf
   passed-sound s w n read write =
       says-bind (CapabilitySound domains) Source (liveMatch depth live (coversOf s w n read write)) _ (match-sound (coversOf s w n read write)) (λ c h. h .source)
 
-  source-sound : (p : Pointer) (m : Mode) → Says Source (sourceOf caller depth live p m)
+  pub source-sound : (p : Pointer) (m : Mode) → Says Source (sourceOf caller depth live p m)
   unfolding sourceOf
   source-sound p m =
       says-if Source (p .tag) (passedOf depth live (p .segment) (p .word) (m .length) (m .read) (m .write)) (ok caller)

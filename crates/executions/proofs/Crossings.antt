@@ -67,13 +67,13 @@ module _ (m : Machine) (w : Whole m) where
   abbrev s : Sound m
   s = w .sound
 
-  in-use : inUse (m .depth) ≡ m .depth
+  pub in-use : inUse (m .depth) ≡ m .depth
   in-use = simp (le-leb (m .depth) 8 (s .frames .most))
 
   live-sound : (1 ≤ m .depth) → FrameSound domains (live m)
   live-sound some = rw in-use (s .frames .used (m .depth - 1) (omega arith))
 
-  live-held : LiveSound domains (inUse (m .depth)) (live m)
+  pub live-held : LiveSound domains (inUse (m .depth)) (live m)
   live-held n = live-sound (omega (arith, n, in-use)) .used
 
   entered-whole : (p : Pointer) (f : Frame) → PointerSound p → m .depth < 8 → FrameSound domains f → Whole (entered m p f)

@@ -42,7 +42,7 @@ unfolding execute decide commit
 called-executes m n words c = simp (c .asked, c .made)
 
 module _ (m n : Machine) (words : List ℕ) (s : SoundRecord m) (c : CalledTo m words n) where
-  gated : Gated (m .layout .lengths) (m .layout .gates) (m .layout .rights) (m .registers .domain) (m .depth) (c .gate)
+  pub gated : Gated (m .layout .lengths) (m .layout .gates) (m .layout .rights) (m .registers .domain) (m .depth) (c .gate)
   gated = said (Planned m (whole m s)) _ (enter (c .gate)) (planned-sound m (whole m s) words) (c .asked)
 
   executes : has (rightsOf (m .layout .rights) (ofSegment (m .layout .gatedomains) (c .gate .segment)) (c .gate .segment)) flag.Execute ≡ true

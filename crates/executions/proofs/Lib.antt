@@ -8,6 +8,7 @@ pub mod Words
 pub mod Pointers
 pub mod Plans
 pub mod Arguments
+pub mod FrameParts
 pub mod Frames
 pub mod Crossings
 pub mod Sound

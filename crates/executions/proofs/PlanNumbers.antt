@@ -27,7 +27,7 @@ use Rattle.addressing.specs.Effective.{displacedBy, throughOf, effectiveOf}
 use Rattle.instructions.specs.Plan.{enter, leave}
 use Rattle.instructions.specs.Instruction.{jumpOf, callOf, returnOf, loadOf, branchOf, isLoad, isStore, takenOf, effectOf, executeOf, planOf}
 use Rattle.transfers.specs.Transfer.{callWay, jumpCheck}
-use Rattle.arguments.specs.ArgumentList.{listWord, listPointer, sourceOf, capabilityOf, argumentOf, argumentsFrom, frameAfter, frameOf}
+use Rattle.arguments.specs.ArgumentList.{listWord, listPointer, sourceOf, capabilityOf, argumentOf, argumentsFrom, listMode, listCapability, frameAfter, frameOf}
 use Rattle.executions.proofs.Fails.{Fails, judged-if, fails-require, fails-if, fails-accept, fails-bind, fails-past}
 use Rattle.executions.proofs.CheckNumbers.{static-judged, match-fails, pointer-fails, instruction-fails, mode-fails, moved-fails}
 
@@ -133,9 +133,9 @@ module _ (read : Reader) (reads : (p : Pointer) → Fails (read p)) where
       arguments-fail zero i rows = tt
       arguments-fail (suc k) i rows = fails-bind (argumentOf read a caller depth f i) _ (argument-fails i) (λ c. arguments-fail k (i + 1) (set rows i c))
 
-      after-fails : (s : Pointer) (n : ℕ) → Fails (frameAfter read a s caller depth f n)
+      after-fails : (s : Pointer) (list : Capability) (n : ℕ) → Fails (frameAfter read a s caller depth f list n)
       unfolding frameAfter
-      after-fails s n =
+      after-fails s list n =
           fails-bind (listPointer read a 1) _ (list-pointer-fails 1)
           (λ back. fails-past (require (not (back .tag)) 30) _ (fails-require (not (back .tag)) 30 (omega arith, omega arith))
           (fails-past (displacedBy a (pos 2)) _ (moved-fails a (pos 2))
@@ -145,4 +145,5 @@ module _ (read : Reader) (reads : (p : Pointer) → Fails (read p)) where
       unfolding frameOf
       frame-fails s =
           fails-bind (listWord read a 0) _ (word-fails 0)
-          (λ n. fails-past (require (leb n 8) 30) (frameAfter read a s caller depth f n) (fails-require (leb n 8) 30 (omega arith, omega arith)) (after-fails s n))
+          (λ n. fails-past (require (leb n 8) 30) _ (fails-require (leb n 8) 30 (omega arith, omega arith))
+          (fails-bind (sourceOf caller depth f a (listMode n)) _ (source-fails a (listMode n)) (λ source. after-fails s (listCapability a source n) n)))

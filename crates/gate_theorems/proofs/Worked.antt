@@ -24,7 +24,7 @@ use Rattle.memory.specs.Reader.{readOf, fetchOf, readWord, fetch}
 use Rattle.addressing.specs.Effective.{displacedBy, throughOf, effectiveOf}
 use Rattle.transfers.specs.Transfer.{callWay}
 use Rattle.instructions.specs.Instruction.{callOf, isLoad, isStore, effectOf, executeOf, planOf}
-use Rattle.arguments.specs.ArgumentList.{listWord, listPointer, argumentsFrom, frameAfter, frameOf}
+use Rattle.arguments.specs.ArgumentList.{listWord, sourceOf, listPointer, argumentsFrom, frameAfter, frameOf}
 use Rattle.crossings.specs.Crossing.{entered, enterOf}
 use Rattle.image_format.specs.Bytes.{pairOf, wordOf, wordsOf, joined}
 use Rattle.image_format.specs.Chunk.{headerOf, chunkOf}
@@ -82,7 +82,7 @@ pub record Computed : Type 0 where
 pub computed : Computed
 unfolding field common signedOf displacedOf pointerOf instructionOf baseOf basesOf freshOf padded joined layoutOf
     has exists rightsOf staticOf verdictOf locateOf referenceOf readOf fetchOf readWord fetch displacedBy throughOf effectiveOf
-    callWay callOf isLoad isStore effectOf executeOf planOf listWord listPointer argumentsFrom frameAfter frameOf
+    callWay callOf isLoad isStore effectOf executeOf planOf listWord sourceOf listPointer argumentsFrom frameAfter frameOf
     entered enterOf decide commit execute
 computed = record { dead = (refl, refl); alive = (refl, refl); gateless = refl }
 
@@ -103,7 +103,7 @@ frame =
 calls : CalledTo (start 1 4) program (entered (start 1 4) gate frame)
 unfolding field common signedOf displacedOf pointerOf instructionOf baseOf basesOf freshOf padded joined layoutOf
     has exists rightsOf staticOf verdictOf locateOf referenceOf readOf fetchOf readWord fetch displacedBy throughOf effectiveOf
-    callWay callOf isLoad isStore effectOf executeOf planOf listWord listPointer argumentsFrom frameAfter frameOf entered enterOf
+    callWay callOf isLoad isStore effectOf executeOf planOf listWord sourceOf listPointer argumentsFrom frameAfter frameOf entered enterOf
 calls = record { gate = gate; asked = refl; made = refl }
 
 -- the theorem of the fetch, of this call

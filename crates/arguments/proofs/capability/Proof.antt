@@ -22,6 +22,9 @@ enum-known-n-2 c = search needs
 enum-known-source : tie.Need-enum-known-source
 enum-known-source c = search needs
 
+capability-on-requires : tie.Need-capability-on-requires
+capability-on-requires c κs = search needs
+
 returns : tie.Need-returns
 unfolding capabilityOf
 returns c = simp (← c .before .before .before .unpack .ensures, c .before .n .given .1)
@@ -36,9 +39,10 @@ returns-2 c =
 returns-3 : tie.Need-returns-3
 unfolding capabilityOf
 returns-3 c =
-    let s = c .before .before .before in
+    let k = c .before .before in
+    let s = k .before .before in
     let m = s .before .before in
-    simp (← m .before .before .unpack .ensures, m .m .given .1, ← s .source .ensures, c .before .source2 .given .1)
+    simp (← m .before .before .unpack .ensures, m .m .given .1, ← s .source .ensures, k .source2 .given .1, c .capability-on .ensures)
 
 pub capability-spec : {M : Type 1} → statement M
 capability-spec =
@@ -50,6 +54,7 @@ capability-spec =
     source-requires
     enum-known-n-2
     enum-known-source
+    capability-on-requires
     returns
     returns-2
     returns-3)

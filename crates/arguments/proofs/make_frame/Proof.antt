@@ -33,6 +33,24 @@ returns c =
 cast-n : tie.Need-cast-n
 cast-n c = search needs
 
+list-mode-requires : tie.Need-list-mode-requires
+list-mode-requires c κs = search needs
+
+source-requires : tie.Need-source-requires
+source-requires c κs = search needs
+
+enum-known-number-2 : tie.Need-enum-known-number-2
+enum-known-number-2 c = search needs
+
+refuse-requires-3 : tie.Need-refuse-requires-3
+refuse-requires-3 c κs = search needs
+
+enum-known-source : tie.Need-enum-known-source
+enum-known-source c = search needs
+
+capability-on-requires : tie.Need-capability-on-requires
+capability-on-requires c κs = search needs
+
 frame-after-requires : tie.Need-frame-after-requires
 frame-after-requires c κs = search needs
 
@@ -49,9 +67,21 @@ returns-2 c =
 returns-3 : tie.Need-returns-3
 unfolding frameOf
 returns-3 c =
-    let i = c .before in
+    let k = c .before .before in
+    let g = k .before .before in
+    let i = g .before .before in
     let w = i .before .before in
-    simp (← w .before .before .list-word .ensures, w .w .given .1, le-leb _ _ (i .if1 .left)) (rw (whole i) at (c .frame-after .ensures))
+    c .refuse3 .ensures ∙ simp (← w .before .before .list-word .ensures, w .w .given .1, le-leb _ _ (i .if1 .left), ← rw (g .before .list-mode .ensures, whole i) at (g .source .ensures), k .number2 .given .1)
+
+returns-4 : tie.Need-returns-4
+unfolding frameOf
+returns-4 c =
+    let o = c .before in
+    let k = o .before .before in
+    let g = k .before .before in
+    let i = g .before .before in
+    let w = i .before .before in
+    simp (← w .before .before .list-word .ensures, w .w .given .1, le-leb _ _ (i .if1 .left), ← rw (g .before .list-mode .ensures, whole i) at (g .source .ensures), k .source2 .given .1) (rw (o .capability-on .ensures, g .before .list-mode .ensures, whole i) at (c .frame-after .ensures))
 
 pub make-frame-spec : {M : Type 1} → statement M
 make-frame-spec =
@@ -64,6 +94,13 @@ make-frame-spec =
     refuse-requires-2
     returns
     cast-n
+    list-mode-requires
+    source-requires
+    enum-known-number-2
+    refuse-requires-3
+    enum-known-source
+    capability-on-requires
     frame-after-requires
     returns-2
-    returns-3)
+    returns-3
+    returns-4)
