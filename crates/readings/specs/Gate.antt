@@ -11,7 +11,7 @@ use Rattle.readings.specs.Question.{Question, Row, running, _gives_}
 use Rattle.readings.specs.Word.{eachBit}
 
 -- so many arguments of this pointer word and this mode word
-abbrev arguments : ℕ → ℕ → ℕ → List ℕ
+abbrev pub arguments : ℕ → ℕ → ℕ → List ℕ
 arguments zero p mode = []
 arguments (suc n) p mode = p ∷ mode ∷ arguments n p mode
 

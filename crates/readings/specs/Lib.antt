@@ -4,6 +4,7 @@ pub mod Question
 pub mod Word
 pub mod Effect
 pub mod Gate
+pub mod HandedOn
 pub mod Reach
 pub mod Border
 pub mod Table

@@ -10,6 +10,7 @@ use Rattle.readings.specs.Question.{Row, pointer, instruction, displace,
 use Rattle.readings.specs.Word.{wordRows}
 use Rattle.readings.specs.Effect.{effectRows}
 use Rattle.readings.specs.Gate.{callOn, gateRows}
+use Rattle.readings.specs.HandedOn.{handedOnRows}
 use Rattle.readings.specs.Reach.{reachRows}
 use Rattle.readings.specs.Border.{borders}
 
@@ -105,5 +106,6 @@ table =
     wordRows ++
     effectRows ++
     gateRows ++
+    handedOnRows ++
     reachRows ++
     borders
