@@ -15,6 +15,9 @@ fn stretches_depend_on_visible_words_only() {
     assert!(met.halted > 100, "{met}");
     assert!(met.with_frame > 4000, "{met}");
     assert!(met.hidden_by_source > 300, "{met}");
+    assert!(met.lists_handed_on > 50, "{met}");
+    assert!(met.lists_uncovered > 100, "{met}");
+    assert!(met.lists_failing > 50, "{met}");
     assert!(met.written_unseen > 150, "{met}");
 }
 

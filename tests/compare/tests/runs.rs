@@ -2,6 +2,7 @@
 
 use compare::runs::{code, kind, number, Call, Comparison, Kind};
 use compare::{library, Pair, State};
+use generator::handed_on::UNCOVERED;
 use generator::{lent, Rng, DEAD_GATES, REFUSALS};
 
 /// A fixed batch of a few thousand images and records.
@@ -39,6 +40,14 @@ fn the_runs_agree() {
     }
     assert!(reached.frames[8] >= 50, "eight frames\n{tally}");
     assert!(reached.tagged_returns >= 1000, "returns\n{tally}");
+    let handed_on = &reached.handed_on;
+    for why in UNCOVERED {
+        assert!(handed_on.of(why) >= 5, "few of {why:?}\n{tally}");
+    }
+    let [refused, failing] = [handed_on.cover_refused(), handed_on.failing_word];
+    assert!(refused >= 100, "few lists not covered\n{tally}");
+    assert!(failing >= 50, "few lists with a failing word\n{tally}");
+    assert!(handed_on.two_sources >= 50, "two sources\n{tally}");
     for kind in [Kind::Halted, Kind::Faulted, Kind::Spent, Kind::Refused] {
         let few = tally.of(kind).iter().any(|&count| count < 50);
         assert!(!few, "few of {kind:?}\n{tally}");

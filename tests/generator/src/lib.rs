@@ -5,6 +5,7 @@ mod call_tree;
 mod damage;
 mod dead_gates;
 mod far_gates;
+pub mod handed_on;
 pub mod lent;
 mod mutate;
 mod random;
@@ -65,12 +66,13 @@ pub fn damaged_image(seed: u64, index: u64) -> Vec<u8> {
 /// An image that the reader accepts.
 pub fn program(rng: &mut Rng) -> ImageBuilder {
     let mut image = match rng.below(100) {
-        0..=53 => call_tree::build(rng),
-        54..=57 => far_gates::build(rng),
-        58..=61 => call_loop::build(rng),
-        62..=67 => templates::counting_loop(rng),
-        68..=73 => templates::endless_calls(rng),
-        74..=81 => templates::relay(rng),
+        0..=40 => call_tree::build(rng),
+        41..=56 => handed_on::build(rng),
+        57..=60 => far_gates::build(rng),
+        61..=64 => call_loop::build(rng),
+        65..=70 => templates::counting_loop(rng),
+        71..=76 => templates::endless_calls(rng),
+        77..=81 => templates::relay(rng),
         82..=89 => templates::two_sources(rng),
         90..=96 => templates::edges(rng),
         _ => templates::random_code(rng),

@@ -1,5 +1,6 @@
 //! What a batch of images reached when the reference ran them.
 
+use crate::handed_on::{Before, HandedOn};
 use crate::records::fetch_check;
 use crate::DeadGates;
 use reference::record::{ARGUMENT_POINTER, SEGMENTS};
@@ -41,8 +42,8 @@ pub struct Reached {
     pub calls: [u64; 9],
     pub calls_inside: u64,
     pub tagged_returns: u64,
-    /// Crossing calls made with a tagged a.
-    pub relayed_calls: u64,
+    /// Runs by their calls with a tagged a.
+    pub handed_on: HandedOn,
     pub passed_on: u64,
     pub tagged_indirect: u64,
     /// Runs by the most frames that were in use.
@@ -95,9 +96,10 @@ impl Reached {
         let first_words = first_words(machine);
         let mut processor = Processor::new(machine, memory)?;
         let (mut count, mut frames, mut crossings) = (0, 0, 0);
+        let mut handed_on = HandedOn::default();
         let mut ending = Ending::Spent;
         while count < limit && ending == Ending::Spent {
-            let outcome = self.observe_step(&mut processor, &first_words);
+            let outcome = self.observe_step(&mut processor, &first_words, &mut handed_on);
             crossings += u32::from(outcome.is_ok_and(Completed::is_crossing));
             match outcome {
                 Err(fault) => ending = Ending::Faulted(fault),
@@ -110,6 +112,7 @@ impl Reached {
             count += u16::from(ending.fault() == 0);
             frames = frames.max(processor.machine().frame_count);
         }
+        self.handed_on.add_run(&handed_on);
         self.count_ending(ending, count, frames);
         self.count_crossings(crossings, ending, processor.machine());
         Ok(Run { ending, count })
@@ -143,6 +146,7 @@ impl Reached {
         &mut self,
         processor: &mut Processor,
         first_words: &[usize; SEGMENTS],
+        handed_on: &mut HandedOn,
     ) -> Result<Completed, Fault> {
         let at = processor.machine().location;
         let address = first_words[usize::from(at.segment)] + usize::from(at.word);
@@ -150,11 +154,15 @@ impl Reached {
         let pointers = processor.machine().pointers;
         let fetch = fetch_check(processor.machine());
         self.fetches_without_execute += u64::from(fetch == Err(Fault::FlagMissing));
-        let outcome = processor.step();
-        let Ok(instruction) = fetch.and_then(|()| Instruction::from_word(word)) else {
+        let instruction = fetch.and_then(|()| Instruction::from_word(word));
+        let Ok(instruction) = instruction else {
+            let outcome = processor.step();
             self.count_fault(outcome.err(), 13);
             return outcome;
         };
+        let before = Before::new(processor.machine(), processor.memory(), instruction);
+        let outcome = processor.step();
+        handed_on.count(before, outcome);
         let opcode = instruction.opcode as usize;
         self.count_fault(outcome.err(), opcode);
         let completed = outcome?;
@@ -162,10 +170,7 @@ impl Reached {
         let tagged = pointers[usize::from(instruction.base)].tag;
         self.tagged_indirect += u64::from(instruction.indirect && tagged);
         match completed {
-            Completed::Called => {
-                self.relayed_calls += u64::from(pointers[ARGUMENT_POINTER].tag);
-                self.count_call(processor, first_words);
-            }
+            Completed::Called => self.count_call(processor, first_words),
             Completed::Returned => self.tagged_returns += 1,
             Completed::Plain if opcode == 8 => self.calls_inside += 1,
             Completed::Plain | Completed::Halted => {}
@@ -199,7 +204,7 @@ impl Reached {
         row(out, "crossing calls by arguments", 0.., &self.calls)?;
         row(out, "runs by most frames in use", 0.., &self.frames)?;
         writeln!(out, "calls inside a domain {}", self.calls_inside)?;
-        writeln!(out, "calls with a tagged a {}", self.relayed_calls)?;
+        write!(out, "{}", self.handed_on)?;
         writeln!(out, "tagged returns {}", self.tagged_returns)?;
         writeln!(out, "passed-on arguments {}", self.passed_on)?;
         writeln!(out, "tagged indirect reads {}", self.tagged_indirect)

@@ -4,7 +4,7 @@ use crate::program;
 use crate::random::Rng;
 use assembler::E;
 use reference::checks::{static_check, Flag};
-use reference::record::{Capability, Frame, Machine, CAPABILITIES, FRAMES};
+use reference::record::{Capability, Frame, Machine, CAPABILITIES, FRAMES, SEGMENTS};
 use reference::words::Pointer;
 use reference::{is_sound, read_image, run, Fault, MEMORY_WORDS};
 
@@ -76,6 +76,25 @@ pub(crate) fn fetch_check(machine: &Machine) -> Result<(), Fault> {
     static_check(machine, machine.domain, at.segment, at.word, Flag::Execute)
 }
 
+/// Puts the location at a word that the domain may execute; gives where that
+/// lies in the memory. A domain that may execute nothing gets the right.
+pub fn executable_place(rng: &mut Rng, machine: &mut Machine) -> usize {
+    let rights = &mut machine.domains[usize::from(machine.domain)].rights;
+    let count = usize::from(machine.segment_count);
+    let first = rng.below(count as u32) as usize;
+    let mut order = (0..SEGMENTS).map(|k| (first + k) % count);
+    let segment = order
+        .find(|&segment| rights[segment] & E != 0)
+        .unwrap_or(first);
+    rights[segment] |= E;
+    let word = rng.below(u32::from(machine.segments[segment].length)) as u16;
+    machine.location.segment = segment as u8;
+    machine.location.word = word;
+    let before = &machine.segments[..segment];
+    let base: usize = before.iter().map(|row| usize::from(row.length)).sum();
+    base + usize::from(word)
+}
+
 /// Changes one thing inside its range.
 fn change_in_range(rng: &mut Rng, machine: &mut Machine) {
     let domains = u32::from(machine.domain_count);
@@ -125,7 +144,7 @@ fn change_capability(rng: &mut Rng, machine: &mut Machine) {
 }
 
 /// A pointer that mostly names an existing word.
-fn pointer(rng: &mut Rng, machine: &Machine) -> Pointer {
+pub(crate) fn pointer(rng: &mut Rng, machine: &Machine) -> Pointer {
     let tag = rng.chance(50);
     let segment = rng.below(u32::from(machine.segment_count)) as u8;
     let length = machine.segments[usize::from(segment)].length;
@@ -138,7 +157,7 @@ fn pointer(rng: &mut Rng, machine: &Machine) -> Pointer {
 }
 
 /// A capability in its ranges.
-fn capability(rng: &mut Rng, machine: &Machine) -> Capability {
+pub(crate) fn capability(rng: &mut Rng, machine: &Machine) -> Capability {
     let place = pointer(rng, machine);
     let room = 4096 - u32::from(place.word);
     let flags = rng.between(1, 3);

@@ -2,13 +2,14 @@
 //! must be of the kinds they claim to be.
 
 use assembler::E;
+use generator::handed_on::{about_to_hand_on, next_list, Found, HandedOn, UNCOVERED};
 use generator::lent::{self, Lent};
 use generator::records::{self, Snapshot};
 use generator::{image, made, made_damaged, DeadGate, DeadGates, Made};
 use generator::{Reached, Rng, DEAD_GATES, LIMIT, REFUSALS};
 use reference::record::Domain;
 use reference::words::OPCODES;
-use reference::{host, is_sound, machine_from_bytes, record_bytes, run, Refusal};
+use reference::{host, is_sound, machine_from_bytes, record_bytes, run, step, Refusal};
 
 #[test]
 fn a_batch_reaches_every_part() {
@@ -42,13 +43,31 @@ fn a_batch_reaches_every_part() {
     assert!(reached.frames[8] >= 50, "eight frames");
     assert!(reached.passed_on >= 200, "passed on");
     assert!(reached.tagged_indirect >= 1000, "tagged indirect reads");
-    assert!(reached.relayed_calls >= 50, "calls with a tagged a");
+    reaches_handed_on_lists(&reached.handed_on);
     assert!(2 * reached.twenty > reached.images, "twenty instructions");
     for (bucket, count) in reached.crossings.iter().enumerate() {
         assert!(*count >= 300, "crossings, bucket {bucket}: {count}");
     }
     assert!(reached.faults_after_crossing >= 1000, "crossed and faulted");
     assert!(reached.left_in_frames >= 1000, "crossed, frames in use");
+}
+
+/// Calls with a tagged a must come to each of their ends.
+fn reaches_handed_on_lists(handed_on: &HandedOn) {
+    let refused = handed_on.cover_refused();
+    assert!(refused >= 200, "24 when the cover was judged: {refused}");
+    for why in UNCOVERED {
+        let count = handed_on.of(why);
+        assert!(count >= 50, "{why:?}: {count}");
+    }
+    for (what, count) in [
+        ("25 at a word", handed_on.failing_word),
+        ("source not the caller", handed_on.other_source),
+        ("two sources", handed_on.two_sources),
+        ("words read by the source", handed_on.read_by_source),
+    ] {
+        assert!(count >= 200, "{what}: {count}");
+    }
 }
 
 /// What an image says of its gates.
@@ -203,6 +222,33 @@ fn records_that_cannot_execute_are_sound_and_give_22() {
     }
     assert!(with_frames >= 500, "{with_frames}");
     assert!((200..800).contains(&others_may), "{others_may}");
+}
+
+#[test]
+fn lists_about_to_be_handed_on_are_found() {
+    let mut rng = Rng::new(18, 0);
+    let mut found = [0; 3];
+    for _ in 0..3000 {
+        let Snapshot { machine, memory } = about_to_hand_on(&mut rng);
+        assert!(is_sound(&machine));
+        let (mut after, mut words) = (machine.clone(), memory.clone());
+        let number = step(&mut after, &mut words).number;
+        let tagged = machine.pointers[0].tag;
+        match next_list(&machine, &memory) {
+            Some(Found::Uncovered(why)) => {
+                assert_eq!(number, 24, "{why:?}");
+                found[0] += 1;
+            }
+            Some(Found::Covered { sources, .. }) if number == 0 => {
+                let made = after.live_frame().expect("a frame").capabilities();
+                assert_eq!(made.last().map(|list| list.source), Some(sources[0]));
+                found[1] += 1;
+            }
+            Some(Found::Covered { .. }) => found[2] += 1,
+            None => assert!(!tagged || after.frame_count <= machine.frame_count),
+        }
+    }
+    assert!(found.iter().all(|&count| count >= 300), "{found:?}");
 }
 
 /// Makes each call with a record that is not sound: 9, and all stays.

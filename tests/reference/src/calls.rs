@@ -83,6 +83,8 @@ impl Processor<'_> {
         if n > ARGUMENTS {
             return Err(Fault::BadList);
         }
+        let (list, mode) = self.list(n as u16);
+        let source = self.source(list, mode)?;
         let return_location = Pointer::from_word(self.list_word(1)?)?;
         if return_location.tag {
             return Err(Fault::BadList);
@@ -97,7 +99,7 @@ impl Processor<'_> {
         for k in 0..n as usize {
             frame.capabilities[k] = self.argument(k as i16)?;
         }
-        frame.capabilities[n as usize] = self.list_capability(n as u16);
+        frame.capabilities[n as usize] = capability(list, mode, source);
         frame.capability_count = n as u8 + 1;
         Ok(frame)
     }
@@ -112,36 +114,31 @@ impl Processor<'_> {
         self.load(self.list_pointer(k)?)
     }
 
-    /// The capability for argument `k`: the caller's own, or passed on.
+    /// The capability for argument `k`.
     fn argument(&self, k: i16) -> Result<Capability, Fault> {
         let pointer = Pointer::from_word(self.list_word(3 + 2 * k)?)?;
         let mode = Mode::from_word(self.list_word(4 + 2 * k)?, pointer.word)?;
-        let source = if pointer.tag {
-            pass_on(self.machine, pointer, mode)?
-        } else {
-            self.machine.domain
-        };
-        Ok(Capability {
-            segment: pointer.segment,
-            word: pointer.word,
-            length: mode.length,
-            read: mode.read,
-            write: mode.write,
-            source,
-        })
+        let source = self.source(pointer, mode)?;
+        Ok(capability(pointer, mode, source))
     }
 
-    /// The read capability for the list itself, 3 + 2n words, source the
-    /// caller.
-    fn list_capability(&self, n: u16) -> Capability {
-        let list = self.machine.pointers[ARGUMENT_POINTER];
-        Capability {
-            segment: list.segment,
-            word: list.word,
+    /// The list itself as an argument: 3 + 2n words to read.
+    fn list(&self, n: u16) -> (Pointer, Mode) {
+        let mode = Mode {
             length: 3 + 2 * n,
             read: true,
             write: false,
-            source: self.machine.domain,
+        };
+        (self.machine.pointers[ARGUMENT_POINTER], mode)
+    }
+
+    /// The source of an argument or a list: the caller, or passed on where the
+    /// pointer is tagged.
+    fn source(&self, pointer: Pointer, mode: Mode) -> Result<u8, Fault> {
+        if pointer.tag {
+            pass_on(self.machine, pointer, mode)
+        } else {
+            Ok(self.machine.domain)
         }
     }
 
@@ -186,5 +183,17 @@ impl Processor<'_> {
     fn set_stack_base(&mut self) {
         let row = self.machine.domains[usize::from(self.machine.domain)];
         self.machine.pointers[STACK_BASE] = Pointer::untagged(row.stack_segment, 0);
+    }
+}
+
+/// The capability that a pointer and a mode ask for, with its source.
+fn capability(pointer: Pointer, mode: Mode, source: u8) -> Capability {
+    Capability {
+        segment: pointer.segment,
+        word: pointer.word,
+        length: mode.length,
+        read: mode.read,
+        write: mode.write,
+        source,
     }
 }

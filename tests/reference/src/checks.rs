@@ -111,8 +111,9 @@ pub fn check_reference(machine: &Machine, pointer: Pointer, flag: Flag) -> Resul
     }
 }
 
-/// The source of a tagged argument: that of the first capability of the live
-/// frame that covers all of it with all flags asked; 24 if there is none.
+/// The source of a tagged argument or of a list at a tagged a: that of the
+/// first capability of the live frame that covers all of it with all flags
+/// asked; 24 if there is none. No static check is made.
 pub fn pass_on(machine: &Machine, pointer: Pointer, mode: Mode) -> Result<u8, Fault> {
     let fits = |capability: &&Capability| {
         capability.covers(pointer.segment, pointer.word, mode.length)

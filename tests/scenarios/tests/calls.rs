@@ -176,16 +176,19 @@ fn word_two_is_not_read() {
 }
 
 #[test]
-fn word_two_need_not_be_covered_under_a_tag() {
+fn word_two_must_be_covered_under_a_tag() {
     let words = ArgumentList::new(pointer(0, 1)).words();
     let mut bench = calling(100, &words);
     bench.machine.pointers[0] = tagged_at(4, 100);
     bench.push_frame(frame(0, &[capability(4, 100, 1, R, 1)]));
-    bench.faults(24);
-    bench.machine.frames[0].capabilities[0].length = 2;
+    for length in [1, 2] {
+        bench.machine.frames[0].capabilities[0].length = length;
+        bench.faults(24);
+    }
+    bench.machine.frames[0].capabilities[0].length = 3;
     bench.steps(1);
     let made = bench.machine.frames[1];
-    assert_eq!(made.capabilities[0], capability(4, 100, 3, R, 0));
+    assert_eq!(made.capabilities[0], capability(4, 100, 3, R, 1));
 }
 
 #[test]
@@ -270,16 +273,17 @@ fn in_a_list_handed_on_each_words_own_tag_counts() {
     assert_eq!(made.return_location, untagged_at(0, 1));
     assert_eq!(made.capabilities[0], capability(3, 2, 1, R, 0));
     assert_eq!(made.capabilities[1], capability(3, 2, 1, R, 1));
-    assert_eq!(made.capabilities[2], capability(4, 0, 7, R, 0));
+    assert_eq!(made.capabilities[2], capability(4, 0, 7, R, 1));
 }
 
 #[test]
-fn the_list_capability_names_the_relay_as_its_source() {
+fn the_list_capability_does_not_name_the_relay_as_its_source() {
     let mut bench = relay(&list().words());
-    bench.set(2, 0, load(A, 0));
+    bench.set(2, 0, load(A, 1));
     bench.steps(1);
     assert_eq!(bench.machine.pointers[0], tagged_at(4, 0));
-    bench.faults(25);
+    bench.steps(1);
+    assert_eq!(bench.machine.a, pointer(0, 1));
 }
 
 #[test]

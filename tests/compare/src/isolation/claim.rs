@@ -181,9 +181,15 @@ pub fn compare(
             met.count(machine, one.code, &all);
             met.changed_words += changed;
             met.written_unseen += unseen;
-            let machine = machine_from_bytes(&one.bytes).expect("a record");
-            let memory = if rng.chance(25) { two.end } else { one.end };
-            Ok(Snapshot { machine, memory })
+            let mut end = Snapshot {
+                machine: machine_from_bytes(&one.bytes).expect("a record"),
+                memory: one.end,
+            };
+            met.count_list(machine.frame_count, one.code, &end);
+            if rng.chance(25) {
+                end.memory = two.end;
+            }
+            Ok(end)
         }
     }
 }

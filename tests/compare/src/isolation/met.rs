@@ -1,7 +1,9 @@
 //! What was met over many compared stretches.
 
 use super::claim::Place;
-use crate::runs::{kind, Kind};
+use crate::runs::{kind, number, Kind};
+use generator::handed_on::{next_list, Found};
+use generator::records::Snapshot;
 use reference::checks::{live_check, Flag};
 use reference::{Fault, Machine};
 use std::fmt;
@@ -20,6 +22,12 @@ pub struct Met {
     pub with_hidden: u64,
     /// Stretches with words hidden only because a capability's source fails.
     pub hidden_by_source: u64,
+    /// Stretches that ended with a call whose list's source is not the caller.
+    pub lists_handed_on: u64,
+    /// Those that ended with 24 for a list at a tagged a.
+    pub lists_uncovered: u64,
+    /// Those that ended with 25 at a word of such a list that is covered.
+    pub lists_failing: u64,
     /// Words that a stretch changed in either memory.
     pub changed_words: u64,
     /// Those of them that the domain may not see.
@@ -48,6 +56,24 @@ impl Met {
         self.hidden_by_source += u64::from(by_source);
     }
 
+    /// Counts how a stretch of a machine with so many frames ended, by the list
+    /// that it handed on at its end.
+    pub(super) fn count_list(&mut self, frames: u8, code: u32, end: &Snapshot) {
+        let Snapshot { machine, memory } = end;
+        if kind(code) == Some(Kind::Crossed) && machine.frame_count > frames {
+            let passed_on = machine.live_frame().is_some_and(|frame| {
+                let list = frame.capabilities().last();
+                list.is_some_and(|list| list.source != frame.domain)
+            });
+            self.lists_handed_on += u64::from(passed_on);
+        }
+        match (number(code), next_list(machine, memory)) {
+            (24, Some(Found::Uncovered(_))) => self.lists_uncovered += 1,
+            (25, Some(Found::Covered { .. })) => self.lists_failing += 1,
+            _ => {}
+        }
+    }
+
     /// Stretches after which nothing follows.
     pub(super) fn ended(&self) -> u64 {
         self.stretches - self.spent - self.crossed
@@ -65,6 +91,11 @@ impl fmt::Display for Met {
         writeln!(f, "stretches with a live frame {}", self.with_frame)?;
         writeln!(f, "stretches with hidden words {}", self.with_hidden)?;
         writeln!(f, "  hidden by a failing source {}", self.hidden_by_source)?;
+        writeln!(
+            f,
+            "lists handed on with another source {} not covered {} failing {}",
+            self.lists_handed_on, self.lists_uncovered, self.lists_failing
+        )?;
         writeln!(f, "words changed {}", self.changed_words)?;
         writeln!(f, "  hidden words stored to {}", self.written_unseen)
     }

@@ -10,6 +10,7 @@ pub use claim::{compare, Broken, Claim, Maker, Sees};
 pub use met::Met;
 
 use crate::library;
+use generator::handed_on::about_to_hand_on;
 use generator::records::{self, Snapshot};
 use generator::{program, Rng};
 use reference::{may_see, read_image, Machine, MEMORY_WORDS};
@@ -53,11 +54,13 @@ fn in_a_row(rng: &mut Rng, claim: Claim, met: &mut Met) -> Result<(), Box<Broken
     Ok(())
 }
 
-/// A fresh machine, one in the middle of a run, or one with changed fields.
+/// A fresh machine, one in the middle of a run, one about to hand a list on, or
+/// one with changed fields.
 fn start(rng: &mut Rng) -> Snapshot {
     match rng.below(10) {
         0 | 1 => fresh(rng),
         2..=5 => records::mid_run(rng),
+        6 => about_to_hand_on(rng),
         _ => records::sound(rng),
     }
 }

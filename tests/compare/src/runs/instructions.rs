@@ -1,16 +1,18 @@
 //! Machines about to execute an instruction that no program had there: any
 //! opcode, with registers that point anywhere.
 
-use generator::records::{self, Snapshot};
+use generator::handed_on::about_to_hand_on;
+use generator::records::{self, executable_place, Snapshot};
 use generator::Rng;
-use reference::record::{Machine, ACTIVATION_POINTER, SEGMENTS};
+use reference::record::{Machine, ACTIVATION_POINTER};
 use reference::words::{Opcode, Pointer, OPCODES};
 
-/// The right to execute.
-const EXECUTE: u8 = 4;
-
-/// A sound machine whose next instruction is a random one.
+/// A sound machine whose next instruction is a random one, or a call that hands
+/// a list on.
 pub fn about_to_execute(rng: &mut Rng) -> Snapshot {
+    if rng.chance(15) {
+        return about_to_hand_on(rng);
+    }
     let mut snapshot = records::sound(rng);
     let machine = &mut snapshot.machine;
     for register in 0..machine.pointers.len() {
@@ -68,23 +70,4 @@ fn existing(rng: &mut Rng, machine: &Machine) -> Pointer {
     };
     let tag = rng.chance(40);
     Pointer { tag, segment, word }
-}
-
-/// Puts the location at a word that the domain may execute; gives where that
-/// lies in the memory. A domain that may execute nothing gets the right.
-fn executable_place(rng: &mut Rng, machine: &mut Machine) -> usize {
-    let rights = &mut machine.domains[usize::from(machine.domain)].rights;
-    let count = usize::from(machine.segment_count);
-    let first = rng.below(count as u32) as usize;
-    let mut order = (0..SEGMENTS).map(|k| (first + k) % count);
-    let segment = order
-        .find(|&segment| rights[segment] & EXECUTE != 0)
-        .unwrap_or(first);
-    rights[segment] |= EXECUTE;
-    let word = rng.below(u32::from(machine.segments[segment].length)) as u16;
-    machine.location.segment = segment as u8;
-    machine.location.word = word;
-    let before = &machine.segments[..segment];
-    let base: usize = before.iter().map(|row| usize::from(row.length)).sum();
-    base + usize::from(word)
 }
