@@ -10,9 +10,9 @@ extern "C" {
 #endif
 
 #define ZENKORV_VERSION_MAJOR 1
-#define ZENKORV_VERSION_MINOR 2
+#define ZENKORV_VERSION_MINOR 3
 #define ZENKORV_VERSION_PATCH 0
-#define ZENKORV_VERSION "1.2.0"
+#define ZENKORV_VERSION "1.3.0"
 
 /* A machine is a record of so many bytes and a memory of so many words. The firmware keeps them and lends them to calls. */
 #define ZENKORV_RECORD_BYTES 919
@@ -79,8 +79,8 @@ enum zenkorv_ending {
 /* The bytes of stack that each call needs on x86-64, its return address included: the bound of tools/stack, rounded up
    with 128 to 255 bytes to spare. Another processor, or another compiler, needs its own figures. */
 #define ZENKORV_STACK_READ 3968
-#define ZENKORV_STACK_RUN 4992
-#define ZENKORV_STACK_STRETCH 4992
+#define ZENKORV_STACK_RUN 5120
+#define ZENKORV_STACK_STRETCH 5120
 #define ZENKORV_STACK_LOG 6016
 #define ZENKORV_STACK_STEP 4992
 #define ZENKORV_STACK_WRITE 2816

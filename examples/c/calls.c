@@ -1,8 +1,9 @@
 /* Checks what each call does on a machine that the host keeps. */
 #include "lent.h"
 
-/* The images of first_package.zk (a gate call that returns), loop.zk, trick_address.zk (fault 25 in a called domain). */
-static struct image package, loop, trick;
+/* The images of first_package.zk (a gate call that returns), loop.zk, trick_address.zk (fault 25 in a called domain) and
+   handed_on_list.zk (a relay calls with a list that it was handed). */
+static struct image package, loop, trick, relay;
 
 /* Slices that are longer than asked for: what lies behind stays. */
 static void check_longer(void)
@@ -179,6 +180,37 @@ static void check_references(void)
     give_back(m);
 }
 
+/* Where the record has the source of the last capability of the newest frame. */
+static uint8_t *last_source(struct machine m)
+{
+    enum { CAPABILITIES = 1, CAPABILITY_BYTES = 8, AT_SOURCE = 5 };
+    uint8_t *frame = m.record + ZENKORV_AT_FRAMES + (m.record[ZENKORV_AT_FRAMES_IN_USE] - 1) * ZENKORV_FRAME_BYTES;
+    return frame + CAPABILITIES + (frame[0] - 1) * CAPABILITY_BYTES + AT_SOURCE;
+}
+
+/* In the domain that the relay of handed_on_list calls: the list, words 12 to 18 of segment 1, is domain 0's, which made
+   it. Were it the relay's, each of its words would give 25. */
+static void check_handed_on(void)
+{
+    enum { NOT = 0x10000, BASE_1 = 4 };
+    struct machine m = loaded(&relay);
+    expect(run(m, 5) == answer(ZENKORV_SPENT, 0, 5), "handed on", "the call of the relay");
+    expect(m.record[ZENKORV_AT_DOMAIN] == 2 && m.record[ZENKORV_AT_FRAMES_IN_USE] == 2, "handed on", "not called");
+    expect(*last_source(m) == 0, "handed on", "another source");
+    for (uint16_t word = 12; word <= 18; word++)
+        check_reference(m, 0, 1, 1, word, BASE_1 + word);
+    check_reference(m, 0, 1, 1, 19, NOT + ZENKORV_NO_MATCH);
+    check_reference(m, 1, 1, 1, 12, NOT + ZENKORV_NO_MATCH);
+    struct machine own = copy_of(m);
+    *last_source(own) = 1;
+    check_reference(own, 0, 1, 1, 12, NOT + ZENKORV_SOURCE_FAILS);
+    expect(step(own) == ZENKORV_SOURCE_FAILS, "handed on", "a list of the relay's is read");
+    expect(run(m, HIGHEST) == answer(ZENKORV_HALTED, 0, 8), "handed on", "the end");
+    expect(m.record[ZENKORV_AT_A] == 22, "handed on", "another answer");
+    give_back(own);
+    give_back(m);
+}
+
 /* A restart gives the record that the image was read into, also out of a called domain; words stay. */
 static void check_restart(void)
 {
@@ -231,22 +263,25 @@ static void check_all(void)
     check_write_between();
     check_segments();
     check_references();
+    check_handed_on();
     check_restart();
     check_entry("first_package", &package);
     check_entry("loop", &loop);
     check_entry("trick_address", &trick);
+    check_entry("handed_on_list", &relay);
     check_names();
 }
 
 int main(int argc, char **argv)
 {
-    if (argc != 4) {
-        fputs("usage: calls first_package.img loop.img trick_address.img\n", stderr);
+    if (argc != 5) {
+        fputs("usage: calls first_package.img loop.img trick_address.img handed_on_list.img\n", stderr);
         return EXIT_FAILURE;
     }
     package.length = image_file(argv[1], package.bytes);
     loop.length = image_file(argv[2], loop.bytes);
     trick.length = image_file(argv[3], trick.bytes);
+    relay.length = image_file(argv[4], relay.bytes);
     check_all();
     return told();
 }
