@@ -20,11 +20,15 @@ use Rattle.executions.proofs.Crossings.{live-held}
 use Rattle.executions.proofs.Sound.{whole}
 use Rattle.executions.specs.Statements.{SoundRecord}
 use Rattle.list_theorems.proofs.Rows.{first-none}
-use Rattle.list_theorems.specs.Statements.{listAt, live, covering, UncoveredRefused, ManyRefused, LongRefused}
+use Rattle.list_theorems.specs.Statements.{listAt, live, covering, UncoveredRefused, FirstWordRefused, ManyRefused, LongRefused}
 
 pub uncovered-refused : UncoveredRefused
 unfolding enterOf frameOf sourceOf passedOf
 uncovered-refused m read gate n t e few none = simp (e, le-leb n 8 few, t, none)
+
+pub first-word-refused : FirstWordRefused
+unfolding enterOf frameOf
+first-word-refused m read gate number e = simp e
 
 pub many-refused : ManyRefused
 unfolding enterOf frameOf

@@ -1,5 +1,5 @@
 -- What is proved of the argument lists of calls through a gate; the proofs stand in proofs/.
-use Prim.Native.Nat.{ℕ, _+_, _-_, _*_, _<_, _≤_}
+use Prim.Native.Nat.{ℕ, _+_, _*_, _<_, _≤_}
 use mathlib.Core.Bool.{Bool, true, false}
 use mathlib.Core.List.{List}
 use mathlib.Core.Logic.{_⊎_}
@@ -31,9 +31,12 @@ listAt m = getD (m .pointers) 0 noPointer
 abbrev pub live : Machine → Frame
 live m = liveFrame (m .depth) (m .frames)
 
--- the first read capability of the live frame that covers a list of n arguments, all its words; 24 where none does
+-- the first read capability of a live frame that covers a list of n arguments at a, all its words; 24 where none does
+abbrev pub coveringIn : ℕ → Frame → Pointer → ℕ → Answer Capability
+coveringIn depth f a n = liveMatch depth f (coversOf (a .segment) (a .word) (3 + 2 * n) true false)
+
 abbrev pub covering : Machine → ℕ → Answer Capability
-covering m n = liveMatch (inUse (m .depth)) (live m) (coversOf (listAt m .segment) (listAt m .word) (3 + 2 * n) true false)
+covering m n = coveringIn (inUse (m .depth)) (live m) (listAt m) n
 
 -- whose a list of n arguments is: the caller's; where a is tagged, that of the capability that covers it
 abbrev pub ListSource : Machine → ℕ → Bool → ℕ → Type 0
@@ -67,11 +70,11 @@ UntaggedOwn =
 abbrev pub withRow : ℕ → Capability → Frame → Frame
 withRow n c f = record { capabilities = set (f .capabilities) n c; s = f .s; back = f .back; count = f .count; domain = f .domain }
 
--- where it is tagged too, a frame that is made differs from that one in the list's source alone
-abbrev pub TaggedOwn : Type 0
-TaggedOwn =
-    (read : Reader) (a s : Pointer) (caller depth : ℕ) (f g : Frame) → frameOf read a s caller depth f ≡ ok g
-    → let n = g .count - 1 in ownFrame read a s caller depth f ≡ ok (withRow n (listCapability a caller n) g)
+-- where it is tagged and the list covered, all is as there, refusals too, but for the list's source
+abbrev pub CoveredOwn : Type 0
+CoveredOwn =
+    (read : Reader) (a s : Pointer) (caller depth : ℕ) (f : Frame) (n : ℕ) (c : Capability) → a .tag ≡ true → listWord read a 0 ≡ ok n → coveringIn depth f a n ≡ ok c
+    → frameOf read a s caller depth f ≡ (ownFrame read a s caller depth f >>= (λ g. ok (withRow n (listCapability a (c .source) n) g)))
 
 -- a tagged list that no capability covers gives 24, whatever its words after word 0 hold, and whether or not they may be read
 abbrev pub UncoveredRefused : Type 0
@@ -79,7 +82,10 @@ UncoveredRefused =
     (m : Machine) (read : Reader) (gate : Pointer) (n : ℕ) → listAt m .tag ≡ true → listWord read (listAt m) 0 ≡ ok n → n ≤ 8 → covering m n ≡ refuse 24
     → enterOf m read gate ≡ refuse 24
 
--- the number of arguments is judged before that
+-- before that, word 0 is read and the number of arguments judged
+abbrev pub FirstWordRefused : Type 0
+FirstWordRefused = (m : Machine) (read : Reader) (gate : Pointer) (number : ℕ) → listWord read (listAt m) 0 ≡ refuse number → enterOf m read gate ≡ refuse number
+
 abbrev pub ManyRefused : Type 0
 ManyRefused = (m : Machine) (read : Reader) (gate : Pointer) (n : ℕ) → listWord read (listAt m) 0 ≡ ok n → 8 < n → enterOf m read gate ≡ refuse 30
 
