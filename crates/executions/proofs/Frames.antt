@@ -49,7 +49,7 @@ module _ (read : Reader) (a : Pointer) where
         both h (refuse n) s = tt
         both h (ok c) s = record { sound = s; within = h }
 
-    -- all words of a list of n arguments are there
+    -- the last word of a list of n arguments is word 4,095 at the latest
     within : (n : ℕ) (rows : List Capability) → a .word + 2 ≤ 4095 → Rows Argument n rows → a .word + (3 + 2 * n) ≤ 4096
     within zero rows three r = omega arith
     within (suc n) rows three r = omega (arith, r .used n (omega arith) .within)

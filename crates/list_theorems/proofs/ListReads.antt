@@ -93,7 +93,7 @@ module _ (m n : Machine) (words : List ℕ) (s : SoundRecord m) (c : CalledTo m 
 pub list-read : ListRead
 list-read m n words s c l k h before =
     searched m n words s c l k h
-    ∙ ap (readAs m n words s c l k h) (first-at (fits m n words s c l k h) (empty-reads (listPlace m k)) (l .arguments) (live n .capabilities) before (last-fits m n words s c l k h) ∙ ap ok (l .last))
+    ∙ ap (readAs m n words s c l k h) (first-at (fits m n words s c l k h) (empty-reads (listPlace m k)) (l .arguments) (live n .capabilities) (λ j i. before j (omega (arith, i))) (last-fits m n words s c l k h) ∙ ap ok (l .last))
     ∙ by-source m n words s c l k h (listCapability (listAt m) (l .source) (l .arguments))
 
 pub list-matched : ListMatched

@@ -24,7 +24,7 @@ use Rattle.list_theorems.specs.Statements.{listAt, live, covering, Uncov
 
 pub uncovered-refused : UncoveredRefused
 unfolding enterOf frameOf sourceOf passedOf
-uncovered-refused m read gate n t e few none = simp (e, le-leb n 8 few, t, none)
+uncovered-refused m read gate n t e few none = simp (e, le-leb n 8 (omega (arith, few)), t, none)
 
 pub first-word-refused : FirstWordRefused
 unfolding enterOf frameOf
@@ -32,7 +32,7 @@ first-word-refused m read gate number e = simp e
 
 pub many-refused : ManyRefused
 unfolding enterOf frameOf
-many-refused m read gate n e many = simp (e, lt-leb n 8 many)
+many-refused m read gate n e many = simp (e, lt-leb n 8 (omega (arith, many)))
 
 -- what ends at word 4,095 covers nothing that goes on past it
 past : (segment word size : ℕ) (c : Capability) → c .word + c .length ≤ 4096 → 4096 < word + size → coversOf segment word size true false c ≡ false
@@ -58,4 +58,4 @@ long-uncovered m n s long = by (eqb (inUse (m .depth)) 0) refl
 pub long-refused : LongRefused
 unfolding execute decide
 long-refused m words gate n s asked t e few long =
-    simp (asked, uncovered-refused m (readWord m words) gate n t e few (long-uncovered m n s long))
+    simp (asked, uncovered-refused m (readWord m words) gate n t e (omega (arith, few)) (long-uncovered m n s (omega (arith, long))))

@@ -89,7 +89,7 @@ FirstWordRefused = (m : Machine) (read : Reader) (gate : Pointer) (number : ℕ)
 abbrev pub ManyRefused : Type 0
 ManyRefused = (m : Machine) (read : Reader) (gate : Pointer) (n : ℕ) → listWord read (listAt m) 0 ≡ ok n → 8 < n → enterOf m read gate ≡ refuse 30
 
--- so a tagged list that passes word 4,095 gives 24
+-- a tagged list that passes word 4,095 is covered by nothing
 abbrev pub LongRefused : Type 0
 LongRefused =
     (m : Machine) (words : List ℕ) (gate : Pointer) (n : ℕ) → SoundRecord m → plannedBy m words ≡ ok (enter gate) → listAt m .tag ≡ true

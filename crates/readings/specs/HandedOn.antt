@@ -7,7 +7,7 @@ use Rattle.state.specs.declared.record.Capability.{Capability}
 use Rattle.state.specs.declared.record.Machine.{Machine}
 use Rattle.readings.specs.Scene.{untaggedTo, taggedTo, grant, readOn, writeOn, sceneFrame, inFrames, machineOf, sceneMemory}
 use Rattle.readings.specs.Change.{pointing}
-use Rattle.readings.specs.Question.{Question, Row, running, _gives_}
+use Rattle.readings.specs.Question.{Question, Row, reaching, running, _gives_}
 use Rattle.readings.specs.Gate.{arguments}
 
 -- domain 0 has its code in segment 0, may call segment 1, a gate into domain 3, and has no right on segment 2, which domain 1 alone may read;
@@ -36,6 +36,10 @@ handingAt word = running 1 (relay word (readOn 2 0 4096 1 ∷ [])) (relayWords 0
 abbrev none : ℕ → List ℕ
 none back = 0 ∷ back ∷ 9 ∷ []
 
+-- one argument of this pointer word, to read
+abbrev one : ℕ → List ℕ
+one p = 1 ∷ 5 ∷ 0 ∷ arguments 1 p 0x40000001
+
 -- eight arguments, each word 0 of segment 0, to read
 abbrev eight : List ℕ
 eight = 8 ∷ 0 ∷ 0 ∷ arguments 8 0 0x40000001
@@ -51,7 +55,10 @@ handedOnRows =
     (loading (readOn 2 0 4096 1 ∷ []) (none 5) 2 gives ok (9 ∷ [])) ∷
     (loading (grant 2 4 3 1 true true ∷ []) (none 5) 1 gives ok (5 ∷ [])) ∷
     (loading (pieces ++ readOn 2 4 3 1 ∷ []) (none 5) 0 gives ok (0 ∷ [])) ∷
-    -- a word less at the end or at the start; only two together; not to be read; another segment; another frame; no frame
+    -- the covering one's source may be the caller itself
+    (handing (pieces ++ readOn 2 4 3 0 ∷ []) (none 5) gives ok (0 ∷ [])) ∷
+    (loading (pieces ++ readOn 2 4 3 0 ∷ []) (none 5) 2 gives refuse 25) ∷
+    -- a word less at the end or at the start; only two together; not to be read; another segment; another frame; no frame, where word 0 is not read
     (handing (readOn 2 4 2 1 ∷ []) (none 5) gives refuse 24) ∷
     (handing (readOn 2 4 1 1 ∷ readOn 2 5 3 1 ∷ []) (none 5) gives refuse 24) ∷
     (handing pieces (none 5) gives refuse 24) ∷
@@ -72,6 +79,14 @@ handedOnRows =
     (handing (readOn 2 5 1 2 ∷ readOn 2 4 3 1 ∷ []) (none 5) gives refuse 25) ∷
     (handing (readOn 2 6 1 2 ∷ readOn 2 4 3 1 ∷ []) (none 5) gives ok (0 ∷ [])) ∷
     (handing (readOn 2 4 3 2 ∷ []) (none 5) gives refuse 25) ∷
+    (handing (readOn 2 7 1 2 ∷ readOn 2 4 5 1 ∷ []) (one 0x80002004) gives refuse 25) ∷
+    (handing (readOn 2 8 1 2 ∷ readOn 2 4 5 1 ∷ []) (one 0x80002004) gives refuse 25) ∷
+    -- so it is what a domain may see: by the first match
+    (reaching (relay 4 (readOn 2 6 1 2 ∷ readOn 2 4 3 1 ∷ [])) 2 5 gives ok (1 ∷ 0 ∷ [])) ∷
+    (reaching (relay 4 (readOn 2 6 1 2 ∷ readOn 2 4 3 1 ∷ [])) 2 6 gives ok (0 ∷ 0 ∷ [])) ∷
+    -- an argument of the list, here its word 0: passed on where its pointer is tagged, else the caller's own
+    (loading (readOn 2 4 5 1 ∷ []) (one 0x80002004) 0x8003 gives ok (1 ∷ [])) ∷
+    (loading (readOn 2 4 5 1 ∷ []) (one 0x00002004) 0x8003 gives refuse 25) ∷
     -- nineteen words with eight arguments
     (loading (readOn 2 4 19 1 ∷ []) eight 18 gives ok (0x40000001 ∷ [])) ∷
     (handing (readOn 2 4 18 1 ∷ readOn 2 22 1 1 ∷ []) eight gives refuse 24) ∷
