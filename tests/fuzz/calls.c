@@ -181,6 +181,9 @@ uint16_t step(void)
     if (code != 0)
         all_stay("step");
     must(same(&words) || words_changed() == 1, "step", "at most one word may change");
+    judge_frame();
+    if (code == NO_MATCH)
+        count_uncovered_list();
     completed("step");
     return code;
 }

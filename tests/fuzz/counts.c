@@ -13,8 +13,12 @@ static const char *const ending_names[] = { "halted", "faulted", "spent", "cross
 static enum mode current;
 static unsigned long inputs[MODES], images[MODES], records[MODES];
 static unsigned long counts[MODES][CALLS][ANSWERS];
+static unsigned long frames[2], uncovered;
 
-__attribute__((section("__libfuzzer_extra_counters"))) static uint8_t reached[MODES * CALLS * ANSWERS + 9 * 32];
+/* Answers, states after a run, and lists. */
+enum { STATES = MODES * CALLS * ANSWERS, LISTS = STATES + 9 * 32, REACHED = LISTS + 3 * 9 };
+
+__attribute__((section("__libfuzzer_extra_counters"))) static uint8_t reached[REACHED];
 
 static unsigned long over_modes(unsigned call, unsigned answer)
 {
@@ -54,6 +58,8 @@ static void print_counts(void)
     printf("\n");
     for (unsigned a = 0; a < ANSWERS; a++)
         print_row(a);
+    printf("\n%-14s %8lu calls judged\n", "a untagged", frames[0]);
+    printf("%-14s %8lu calls judged, %8lu lists refused as not covered\n", "a tagged", frames[1], uncovered);
 }
 
 void count_input(enum mode mode)
@@ -101,5 +107,19 @@ void count_state(unsigned depth, unsigned completed)
     unsigned size = 0;
     while (completed >> size != 0)
         size++;
-    reached[MODES * CALLS * ANSWERS + 32 * depth + size] = 1;
+    reached[STATES + 32 * depth + size] = 1;
+}
+
+/* A frame that was judged: a's tag before the call, and the number of arguments. */
+void count_frame(bool tagged, unsigned arguments)
+{
+    frames[tagged]++;
+    reached[LISTS + 9u * tagged + arguments] = 1;
+}
+
+/* A list at a tagged a that was refused. */
+void count_uncovered(unsigned arguments)
+{
+    uncovered++;
+    reached[LISTS + 2 * 9 + arguments] = 1;
 }

@@ -13,7 +13,8 @@ enum { RECORD = ZENKORV_RECORD_BYTES, WORDS = ZENKORV_MEMORY_WORDS };
 /* Places in the record. */
 enum {
     LENGTHS = 0, GATES = 32, START = 64, GATE_DOMAINS = 68, STACKS = 84, RIGHTS = 92, SEGMENTS = 220, DOMAINS = 221,
-    REGISTERS = 222, LOCATION = 226, EXECUTING = 229, POINTERS = 230, DEPTH = 262, FRAMES = 263, FRAME = 82, CALLER = 81
+    REGISTERS = 222, LOCATION = 226, EXECUTING = 229, POINTERS = 230, DEPTH = 262, FRAMES = 263, FRAME = 82, CALLER_S = 73,
+    CALLER = 81
 };
 
 /* The log, and places in one of its crossings. */
@@ -92,9 +93,15 @@ void count_record(bool accepted);
 void count_number(enum call call, unsigned number);
 void count_ending(enum call call, enum ending ending, unsigned number);
 void count_state(unsigned depth, unsigned completed);
+void count_frame(bool tagged, unsigned arguments);
+void count_uncovered(unsigned arguments);
 
 /* crossings.c: what must hold of a log, which is the output */
 void judge_log(unsigned calls, unsigned returns, unsigned completed);
+
+/* frames.c: what must hold of the frame that a step makes by a call through a gate */
+void judge_frame(void);
+void count_uncovered_list(void);
 
 /* calls.c: each call with what must hold of it alone */
 void must(bool holds, const char *call, const char *what);

@@ -57,6 +57,14 @@ void run_is_steps(uint16_t limit)
     must(same_as(&after), "run", "its record and words must be those of single steps");
 }
 
+/* After a stretch that crossed: its last instruction is a step. */
+static void crossing_is_step(uint16_t count)
+{
+    restore(&before);
+    run((uint16_t)(count - 1));
+    must(step() == 0 && same_as(&after), "stretch", "its crossing must be that of a step");
+}
+
 /* A stretch is the run of as many instructions, and stays where that one's next would fault. */
 void stretch_is_run(uint16_t limit)
 {
@@ -71,6 +79,8 @@ void stretch_is_run(uint16_t limit)
     must(same_as(&after), "stretch", "its record and words must be those of a run");
     if (code >> 24 == FAULTED)
         must(step() == (code >> 16 & 0xFF), "stretch", "a step after it must give its fault");
+    if (code >> 24 == CROSSED)
+        crossing_is_step((uint16_t)code);
 }
 
 /* The crossing that a stretch has just made. */

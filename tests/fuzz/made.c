@@ -108,7 +108,27 @@ static void made_frame(uint8_t *to, unsigned segments, unsigned domains)
     to[81] = (uint8_t)below(domains);
 }
 
-/* Any sound registers, pointers and frames on a layout; one record in four stays fresh. */
+/* As if a list had come as an argument: a is tagged, b at the stack, most capabilities of the live frame begin at a. They may be too short. */
+static void made_handed_list(uint8_t *bytes, unsigned segments)
+{
+    uint8_t *a = bytes + POINTERS;
+    uint8_t *frame = bytes + FRAMES + FRAME * (bytes[DEPTH] - 1u);
+    const uint8_t stack[] = { 0, 0, bytes[STACKS + bytes[EXECUTING]], 0 };
+    memcpy(bytes + POINTERS + 4 * 2, stack, 4);
+    put16(a, one_in(8) ? below(4) : 0);
+    a[2] = made_segment(segments, true);
+    a[3] = 1;
+    for (unsigned k = 0; k < frame[0]; k++) {
+        uint8_t *to = frame + 1 + 8 * k;
+        if (one_in(4))
+            continue;
+        memcpy(to, a, 2);
+        put16(to + 2, 1 + below(12));
+        to[4] = a[2];
+    }
+}
+
+/* Any sound registers, pointers and frames on a layout; one record in four stays fresh, one in four has been handed a list. */
 void made_state(uint8_t *bytes)
 {
     unsigned segments = bytes[SEGMENTS];
@@ -122,9 +142,12 @@ void made_state(uint8_t *bytes)
     for (unsigned p = 0; p < 8; p++)
         if (p != 2 || one_in(4))
             made_pointer(bytes + POINTERS + 4 * p, segments, one_in(3));
-    bytes[DEPTH] = one_in(4) ? 8 : (uint8_t)below(9);
+    bool handed = one_in(3);
+    bytes[DEPTH] = (uint8_t)(handed ? 1 + below(7) : one_in(4) ? 8 : below(9));
     for (unsigned f = 0; f < bytes[DEPTH]; f++)
         made_frame(bytes + FRAMES + FRAME * f, segments, domains);
+    if (handed)
+        made_handed_list(bytes, segments);
 }
 
 static uint32_t made_pointer_word(unsigned segments)
@@ -179,16 +202,28 @@ static uint32_t made_word(unsigned segment, unsigned k, uint32_t before, unsigne
     return k == 0 ? made_first_word(segments) : made_code_word(before, segments);
 }
 
+/* Where a is tagged, the next instruction is often a CALL of the gate in b's list. */
+static void made_next_word(const uint8_t *bytes, uint32_t *memory)
+{
+    unsigned segment = bytes[LOCATION + 2];
+    unsigned word = get16(bytes + LOCATION);
+    if (bytes[POINTERS + 3] == 0 || segment >= bytes[SEGMENTS] || word >= get16(bytes + LENGTHS + 2 * segment) || one_in(4))
+        return;
+    memory[base_of(bytes, segment) + word] = 0x0800A002;
+}
+
 void made_words(const uint8_t *bytes, uint32_t *memory)
 {
+    uint32_t *to = memory;
     for (unsigned s = 0; s < bytes[SEGMENTS]; s++) {
         unsigned length = get16(bytes + LENGTHS + 2 * s);
         uint32_t word = 0;
         for (unsigned k = 0; k < length; k++) {
             word = made_word(s, k, word, bytes[SEGMENTS]);
-            *memory++ = word;
+            *to++ = word;
         }
     }
+    made_next_word(bytes, memory);
 }
 
 void made_soup(uint32_t *memory, size_t count)

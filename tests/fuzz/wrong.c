@@ -3,6 +3,7 @@
 #include <string.h>
 
 #include "chunks.h"
+#include "wrong_frames.h"
 #include "wrong_gates.h"
 #include "zenkorv.h"
 
@@ -50,8 +51,6 @@ static struct {
     uint8_t number;
     bool dead;
 } seen;
-
-uint8_t __real_zenkorv_read(const uint8_t *image, size_t image_length, uint8_t *record, size_t record_length, uint32_t *words, size_t word_count);
 
 /* The number of a read into a machine of its own. */
 static uint8_t tried(const uint8_t *image, size_t image_length)
@@ -147,6 +146,17 @@ static void unbend(const uint8_t *lent, size_t record_length)
         memcpy((uint8_t *)lent, layout, sizeof layout);
 }
 
+/* 38: the source of a list at a tagged a is the caller; 39: or that of the last capability that covers it; 40: a list is lent to be written too;
+   41: it is a word short; 42: it need not be covered; 43: arguments are lent to be written too; 44: the s of a frame has no tag. */
+static enum slip slip(void)
+{
+    if (wrong(38) || wrong(39))
+        return wrong(38) ? CALLER_AS_SOURCE : LAST_AS_SOURCE;
+    if (wrong(40) || wrong(41) || wrong(42))
+        return wrong(40) ? LIST_WITH_W : wrong(41) ? WORD_SHORT : NOT_COVERED;
+    return wrong(43) ? ARGUMENTS_WITH_W : wrong(44) ? S_UNTAGGED : NO_SLIP;
+}
+
 /* 1: a refused read leaves a byte of the record behind; 2: an accepted one writes past the record; 3: or past the segments; 34: one refused with 10 writes a word. */
 WRAPPED(uint8_t, read, const uint8_t *image, size_t image_length, uint8_t *record, size_t record_length, uint32_t *words, size_t word_count)
 {
@@ -167,6 +177,9 @@ WRAPPED(uint8_t, read, const uint8_t *image, size_t image_length, uint8_t *recor
 /* 4: a refused run changes the record; 5: a completed one leaves a flag of 2; 6: a fault is counted. */
 WRAPPED(uint32_t, run, uint8_t *record, size_t record_length, uint32_t *words, size_t word_count, uint16_t limit)
 {
+    const struct machine m = { slip(), record, record_length, words, word_count };
+    if (m.slip != NO_SLIP)
+        return run_of_steps(&m, limit, false);
     uint8_t tag_taken = take_tag(record, record_length);
     bend(record, record_length);
     uint32_t code = __real_zenkorv_run(record, record_length, words, word_count, limit);
@@ -183,6 +196,9 @@ WRAPPED(uint32_t, run, uint8_t *record, size_t record_length, uint32_t *words, s
 /* 7: a stretch goes on past a crossing. */
 WRAPPED(uint32_t, stretch, uint8_t *record, size_t record_length, uint32_t *words, size_t word_count, uint16_t limit)
 {
+    const struct machine m = { slip(), record, record_length, words, word_count };
+    if (m.slip != NO_SLIP)
+        return run_of_steps(&m, limit, true);
     uint8_t tag_taken = take_tag(record, record_length);
     bend(record, record_length);
     uint32_t code = __real_zenkorv_stretch(record, record_length, words, word_count, limit);
@@ -230,6 +246,9 @@ static void spoil_log(uint8_t *log, size_t log_length, uint16_t *calls, uint16_t
 WRAPPED(uint32_t, log, uint8_t *record, size_t record_length, uint32_t *words, size_t word_count, uint8_t *log, size_t log_length, uint16_t *calls,
         uint16_t *returns)
 {
+    const struct machine m = { slip(), record, record_length, words, word_count };
+    if (m.slip != NO_SLIP && log_length >= 6000 && run_of_steps(&m, 0, false) >> 24 != 4)
+        return log_of_steps(&m, log, calls, returns);
     if (wrong(25) && log_length < 6000)
         return 0x4080000;
     uint8_t tag_taken = take_tag(record, record_length);
@@ -251,6 +270,9 @@ WRAPPED(uint32_t, log, uint8_t *record, size_t record_length, uint32_t *words, s
 /* 8: a step that faults changes A; 9: one that halts moves on. */
 WRAPPED(uint16_t, step, uint8_t *record, size_t record_length, uint32_t *words, size_t word_count)
 {
+    const struct machine m = { slip(), record, record_length, words, word_count };
+    if (m.slip != NO_SLIP)
+        return wrong_step(&m);
     uint8_t tag_taken = take_tag(record, record_length);
     bend(record, record_length);
     uint16_t code = __real_zenkorv_step(record, record_length, words, word_count);
@@ -324,6 +346,8 @@ WRAPPED(uint8_t, restart, uint8_t *record, size_t record_length)
 /* 17: its count is of one more; 18: a byte past the result is written; 36: it runs an image with a dead gate. */
 WRAPPED(uint8_t, entry, const uint8_t *image, size_t image_length, uint16_t limit, uint8_t *result, size_t result_length)
 {
+    if (slip() != NO_SLIP && result_length >= 4)
+        return entry_of_steps(slip(), image, image_length, limit, result);
     if (sees_images_wrong() || wrong(36)) {
         see(image, image_length);
         uint8_t refusal = wrong(36) ? seen.number : number_seen(image_length);
