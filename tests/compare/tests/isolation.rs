@@ -16,6 +16,8 @@ fn stretches_depend_on_visible_words_only() {
     assert!(met.with_frame > 4000, "{met}");
     assert!(met.hidden_by_source > 300, "{met}");
     assert!(met.lists_handed_on > 50, "{met}");
+    assert!(met.lists_with_own_source > 20, "{met}");
+    assert!(met.lists_in_last_frame > 20, "{met}");
     assert!(met.lists_uncovered > 100, "{met}");
     assert!(met.lists_failing > 50, "{met}");
     assert!(met.written_unseen > 150, "{met}");

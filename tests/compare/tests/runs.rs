@@ -1,6 +1,6 @@
 //! Whole runs by the proved library and by the reference give the same.
 
-use compare::runs::{code, kind, number, Call, Comparison, Kind};
+use compare::runs::{code, kind, number, Call, Comparison, Kind, Tally};
 use compare::{library, Pair, State};
 use generator::handed_on::UNCOVERED;
 use generator::{lent, Rng, DEAD_GATES, REFUSALS};
@@ -40,14 +40,7 @@ fn the_runs_agree() {
     }
     assert!(reached.frames[8] >= 50, "eight frames\n{tally}");
     assert!(reached.tagged_returns >= 1000, "returns\n{tally}");
-    let handed_on = &reached.handed_on;
-    for why in UNCOVERED {
-        assert!(handed_on.of(why) >= 5, "few of {why:?}\n{tally}");
-    }
-    let [refused, failing] = [handed_on.cover_refused(), handed_on.failing_word];
-    assert!(refused >= 100, "few lists not covered\n{tally}");
-    assert!(failing >= 50, "few lists with a failing word\n{tally}");
-    assert!(handed_on.two_sources >= 50, "two sources\n{tally}");
+    reaches_handed_on_lists(tally);
     for kind in [Kind::Halted, Kind::Faulted, Kind::Spent, Kind::Refused] {
         let few = tally.of(kind).iter().any(|&count| count < 50);
         assert!(!few, "few of {kind:?}\n{tally}");
@@ -58,6 +51,20 @@ fn the_runs_agree() {
         let few = tally.refused_with(number) < 40;
         assert!(!few, "few calls refused with {number}\n{tally}");
     }
+}
+
+/// Calls with a tagged a must come to each of their ends.
+fn reaches_handed_on_lists(tally: &Tally) {
+    let handed_on = &tally.reached.handed_on;
+    for why in UNCOVERED {
+        assert!(handed_on.of(why) >= 5, "few of {why:?}\n{tally}");
+    }
+    let [refused, failing] = [handed_on.cover_refused(), handed_on.failing_word];
+    assert!(refused >= 100, "few lists not covered\n{tally}");
+    assert!(failing >= 50, "few lists with a failing word\n{tally}");
+    assert!(handed_on.two_sources >= 50, "two sources\n{tally}");
+    assert!(handed_on.own_source >= 20, "own source\n{tally}");
+    assert!(handed_on.last_frame >= 20, "the last frame\n{tally}");
 }
 
 #[test]

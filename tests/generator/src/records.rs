@@ -115,13 +115,20 @@ fn change_in_range(rng: &mut Rng, machine: &mut Machine) {
         }
         2 => machine.a = rng.word(),
         3 if usize::from(machine.frame_count) < FRAMES => {
-            let frame = frame(rng, machine);
-            machine.frames[usize::from(machine.frame_count)] = frame;
-            machine.frame_count += 1;
+            add_frames(rng, machine, machine.frame_count + 1);
         }
         4 => machine.domain = rng.below(domains) as u8,
         5 => change_location(rng, machine),
         _ => change_capability(rng, machine),
+    }
+}
+
+/// Adds frames in their ranges until so many are in use.
+pub(crate) fn add_frames(rng: &mut Rng, machine: &mut Machine, count: u8) {
+    while machine.frame_count < count {
+        let frame = frame(rng, machine);
+        machine.frames[usize::from(machine.frame_count)] = frame;
+        machine.frame_count += 1;
     }
 }
 

@@ -63,11 +63,14 @@ fn reaches_handed_on_lists(handed_on: &HandedOn) {
     for (what, count) in [
         ("25 at a word", handed_on.failing_word),
         ("source not the caller", handed_on.other_source),
+        ("source the caller itself", handed_on.own_source),
         ("two sources", handed_on.two_sources),
         ("words read by the source", handed_on.read_by_source),
     ] {
         assert!(count >= 200, "{what}: {count}");
     }
+    let last = handed_on.last_frame;
+    assert!(last >= 50, "into the last frame: {last}");
 }
 
 /// What an image says of its gates.
@@ -228,6 +231,7 @@ fn records_that_cannot_execute_are_sound_and_give_22() {
 fn lists_about_to_be_handed_on_are_found() {
     let mut rng = Rng::new(18, 0);
     let mut found = [0; 3];
+    let mut by_frames = [[0; 2]; 8];
     for _ in 0..3000 {
         let Snapshot { machine, memory } = about_to_hand_on(&mut rng);
         assert!(is_sound(&machine));
@@ -243,12 +247,19 @@ fn lists_about_to_be_handed_on_are_found() {
                 let made = after.live_frame().expect("a frame").capabilities();
                 assert_eq!(made.last().map(|list| list.source), Some(sources[0]));
                 found[1] += 1;
+                let own = sources[0] == machine.domain;
+                by_frames[usize::from(machine.frame_count)][usize::from(own)] += 1;
             }
             Some(Found::Covered { .. }) => found[2] += 1,
             None => assert!(!tagged || after.frame_count <= machine.frame_count),
         }
     }
     assert!(found.iter().all(|&count| count >= 300), "{found:?}");
+    let few = by_frames[6..]
+        .as_flattened()
+        .iter()
+        .any(|&count| count < 30);
+    assert!(!few, "by frames in use and source {by_frames:?}");
 }
 
 /// Makes each call with a record that is not sound: 9, and all stays.

@@ -1,8 +1,10 @@
 //! What the tests of whole images share: a bench that holds a machine with
-//! its memory, and the layout of three subsystems A, B and C.
+//! its memory, the layout of three subsystems A, B and C, and a relay.
 //!
 //! Where the proved library is there, each call on a bench is made by it too,
 //! and its answer, record and words must be the reference's.
+
+pub mod relay;
 
 use assembler::{Code, ImageBuilder, E, G, R, W};
 use compare::library;

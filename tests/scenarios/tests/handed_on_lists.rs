@@ -1,75 +1,10 @@
 //! Lists handed on: CALL with a tagged a. One read capability of the live
-//! frame must cover the whole list, and the first such one's source is passed
-//! on.
+//! frame must cover the whole list, judged after n and before the rest.
 
 use assembler::*;
 use reference::may_see;
-use reference::record::Capability;
+use scenarios::relay::*;
 use scenarios::*;
-
-/// The domains of a relay's machine. The maker and the reader have R on the
-/// list's segment; the relay and the called domain have no right there.
-const MAKER: u8 = 0;
-const RELAY: u8 = 1;
-const CALLED: u8 = 2;
-const READER: u8 = 3;
-/// Where the list lies.
-const LISTS: u8 = 4;
-const AT: u16 = 100;
-
-/// The relay about to call, with a tagged a at word `at` of the lists' segment
-/// and these capabilities in the live frame. Words past 4,095 are left out.
-fn relay_at(at: u16, words: &[u32], capabilities: &[Capability]) -> Bench {
-    let mut image = ImageBuilder::new();
-    image.segment([call(3, 0), halt()]);
-    image.segment([0u32; 10]);
-    image.segment([halt(); 10]);
-    image.segment([0u32; 10]);
-    image.segment([0u32; 4096]);
-    image.domain(1, &[(LISTS, R | W)]);
-    image.domain(1, &[(0, R | E), (1, R | W), (2, G)]);
-    image.domain(3, &[(2, R | E), (3, R | W)]);
-    image.domain(1, &[(LISTS, R)]);
-    image.gates(2, 1, CALLED).start(RELAY, pointer(0, 0));
-    let mut bench = Bench::new(&image);
-    for (place, &word) in (at..4096).zip(words) {
-        bench.set(LISTS, place, word);
-    }
-    bench.machine.pointers[0] = tagged_at(LISTS, at);
-    bench.machine.pointers[3] = untagged_at(2, 0);
-    bench.push_frame(frame(MAKER, capabilities));
-    bench
-}
-
-/// The same with the list at its usual place.
-fn relay(words: &[u32], capabilities: &[Capability]) -> Bench {
-    relay_at(AT, words, capabilities)
-}
-
-/// A list of n arguments, each a word of the relay's stack, that returns to
-/// the relay's HALT.
-fn list(n: usize) -> Vec<u32> {
-    let none = ArgumentList::new(pointer(0, 1));
-    let all = (0..n).fold(none, |list, _| list.argument(pointer(1, 0), 1, R));
-    all.words()
-}
-
-/// How many words a list of n arguments has.
-fn words_of(n: usize) -> u16 {
-    3 + 2 * n as u16
-}
-
-/// A capability on `length` words of the list from its word `first` on.
-fn on(first: u16, length: u16, flags: u8, source: u8) -> Capability {
-    capability(LISTS, AT + first, length, flags, source)
-}
-
-/// The capability for the list of the call that must complete.
-fn list_capability(mut bench: Bench) -> Capability {
-    bench.steps(1);
-    let made = bench.machine.frames[1];
-    made.capabilities[usize::from(made.capability_count) - 1]
-}
 
 #[test]
 fn the_covering_capabilitys_source_is_passed_on() {
@@ -148,21 +83,6 @@ fn two_capabilities_together_do_not_cover_a_list() {
         }
         let overlapping = [on(0, length - 1, R, MAKER), on(1, length, R, READER)];
         relay(&list(n), &overlapping).faults(24);
-    }
-}
-
-#[test]
-fn the_first_covering_capability_gives_the_source() {
-    let short = on(0, 4, R, READER);
-    let (makers, readers) = (on(0, 5, R, MAKER), on(0, 5, R, READER));
-    for (capabilities, source) in [
-        ([short, makers, readers], MAKER),
-        ([short, readers, makers], READER),
-        ([makers, readers, short], MAKER),
-        ([on(0, 5, W, READER), readers, makers], READER),
-    ] {
-        let made = list_capability(relay(&list(1), &capabilities));
-        assert_eq!(made.source, source);
     }
 }
 
@@ -247,18 +167,17 @@ fn each_word_is_read_by_its_own_first_match() {
 }
 
 #[test]
-fn no_static_check_is_made_of_the_source_passed_on() {
-    let [first, second] = [on(0, 2, R, READER), on(2, 3, R, READER)];
-    let failing = on(0, 5, R, CALLED);
-    let capabilities = [first, second, failing, on(0, 5, R, MAKER)];
-    let mut bench = relay(&list(1), &capabilities);
-    bench.set(2, 0, load(A, 0));
-    bench.steps(1);
-    assert_eq!(bench.machine.frames[1].capabilities[1], failing);
-    bench.faults(25);
-    bench.machine.domains[usize::from(CALLED)].rights[4] = R;
-    bench.steps(1);
-    assert_eq!(bench.machine.a, 1);
+fn each_word_of_a_single_argument_has_its_own_first_match() {
+    let whole = on(0, 5, R, MAKER);
+    for word in [3, 4] {
+        let failing = on(word, 1, R, RELAY);
+        relay(&list(1), &[failing, whole]).faults(25);
+        relay(&list(1), &[failing, failing, whole, whole]).faults(25);
+        assert_eq!(list_capability(relay(&list(1), &[whole, failing])), whole);
+    }
+    relay(&list(1), &[on(2, 2, R, RELAY), whole]).faults(25);
+    let not_read = on(2, 1, R, RELAY);
+    assert_eq!(list_capability(relay(&list(1), &[not_read, whole])), whole);
 }
 
 #[test]
@@ -274,127 +193,10 @@ fn the_words_of_a_list_handed_on_need_not_exist() {
 }
 
 #[test]
-fn nothing_is_passed_on_where_a_is_untagged() {
-    for capabilities in [[on(0, 3, R, MAKER)], [on(0, 3, W, MAKER)]] {
-        let mut bench = relay(&list(0), &capabilities);
-        bench.machine.pointers[0].tag = false;
-        bench.faults(22);
-        bench.machine.domains[usize::from(RELAY)].rights[4] = R;
-        assert_eq!(list_capability(bench), on(0, 3, R, RELAY));
-    }
-    let mut bench = relay(&list(0), &[on(0, 3, R, MAKER)]);
-    bench.machine.pointers[0].tag = false;
-    bench.machine.domains[usize::from(RELAY)].rights[4] = R;
-    bench.machine.frames[0] = Default::default();
-    bench.machine.frame_count = 0;
-    bench.steps(1);
-    let made = bench.machine.frames[0];
-    assert_eq!(made.capabilities[0], on(0, 3, R, RELAY), "no frame needed");
-}
-
-#[test]
 fn what_a_relay_may_see_is_counted_by_the_first_match() {
     let capabilities = [on(2, 1, R, RELAY), on(0, 3, R, MAKER)];
     let bench = relay(&list(0), &capabilities);
     let seen = [0, 1, 2, 3].map(|word| may_see(&bench.machine, LISTS, AT + word));
     assert_eq!(seen, [true, true, false, false]);
     assert_eq!(list_capability(bench), on(0, 3, R, MAKER));
-}
-
-/// A's data: the link to B's gate, a list for B with one argument on the list
-/// at word 6, and that list, for C, with n arguments on B's word 2.
-fn a_data(n: usize, back: u32) -> Vec<u32> {
-    let own = ArgumentList::new(pointer(0, 2));
-    let own = own.argument(pointer(1, 6), words_of(n).into(), R);
-    let none = ArgumentList::new(back);
-    let handed_on = (0..n).fold(none, |list, _| list.argument(pointer(3, 2), 1, R));
-    [vec![pointer(2, 0)], own.words(), handed_on.words()].concat()
-}
-
-/// A's code: call B with the list at b|1, then halt.
-fn a_code() -> [Code; 3] {
-    [epp(A, B, 1), call(B, 0).indirect(), halt()]
-}
-
-/// B's code: keep a at b|1, call C with the list that is the argument, take a
-/// back at word 3 and return.
-fn b_code() -> [Code; 5] {
-    [
-        spp(A, B, 1),
-        epp(A, A, 3).indirect(),
-        call(B, 0).indirect(),
-        epp(A, B, 1).indirect(),
-        ret(A, 1).indirect(),
-    ]
-}
-
-/// C adds up every word of its list and the last argument, if there is one,
-/// stores the sum at b|0 and returns.
-fn c_code(n: usize) -> Vec<Code> {
-    let mut code = vec![lit(0)];
-    code.extend((0..words_of(n)).map(|word| add(A, word.into())));
-    code.extend((0..n).last().map(|k| add(A, 3 + 2 * k as i32).indirect()));
-    code.extend([store(B, 0), ret(A, 1).indirect()]);
-    code
-}
-
-#[test]
-fn a_relay_hands_its_own_list_on() {
-    for (n, sum, count) in [(0, 8195, 14), (1, 1_073_762_388, 17), (8, 106_608, 31)] {
-        let image = subsystems(
-            [&a_code(), &b_code(), &c_code(n)],
-            [&a_data(n, pointer(2, 3)), &[pointer(4, 0), 0, 77], &[0]],
-        );
-        let expected = Expected {
-            fault: 0,
-            count,
-            domain: DOMAIN_A,
-            at: (0, 2),
-            a: sum,
-            frames: 0,
-            changed: &[(3, 1, tagged(1, 1)), (5, 0, sum)],
-        };
-        expect(&image, expected);
-    }
-}
-
-/// B hands A's list on to C, and C to D. The list returns to word 0 of segment
-/// 8, which B and C may execute: there each takes its own a back and returns.
-fn handed_on_twice() -> ImageBuilder {
-    let c = [spp(A, B, 1), call(B, 0).indirect()];
-    let data = a_data(1, pointer(8, 0));
-    let mut image = subsystems(
-        [&a_code(), &b_code()[..3], &c],
-        [&data, &[pointer(4, 0), 0, 77], &[pointer(6, 0), 0]],
-    );
-    image.segment([load(A, 0), add(A, 1), add(A, 4), ret(A, 1).indirect()]);
-    image.segment([0u32]);
-    image.segment([epp(A, B, 1).indirect(), ret(A, 1).indirect()]);
-    image.domain(7, &[(6, R | E), (7, R | W)]);
-    image.gates(6, 1, 3);
-    image.rights(DOMAIN_B, 8, E).rights(DOMAIN_C, 8, E);
-    image.rights(DOMAIN_C, 6, G);
-    image
-}
-
-#[test]
-fn a_list_handed_on_twice_keeps_its_source() {
-    let mut bench = Bench::new(&handed_on_twice());
-    for (frames, count) in [(1, 2), (2, 3), (3, 2)] {
-        assert_eq!(bench.stretch(1000).count, count);
-        assert_eq!(bench.machine.frame_count, frames);
-    }
-    let lists = [1, 2].map(|newest| bench.machine.frames[newest].capabilities[1]);
-    assert_eq!(lists, [capability(1, 6, 5, R, DOMAIN_A); 2]);
-    let sum = 1 + 32_768 + 1_073_741_825;
-    let expected = Expected {
-        fault: 0,
-        count: 16,
-        domain: DOMAIN_A,
-        at: (0, 2),
-        a: sum,
-        frames: 0,
-        changed: &[(3, 1, tagged(1, 1)), (5, 1, tagged(1, 6))],
-    };
-    expect(&handed_on_twice(), expected);
 }

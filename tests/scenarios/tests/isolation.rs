@@ -17,6 +17,8 @@ fn stretches_depend_on_visible_words_only() {
     assert!(met.with_hidden > 50_000, "{met}");
     assert!(met.hidden_by_source > 4000, "{met}");
     assert!(met.lists_handed_on > 700, "{met}");
+    assert!(met.lists_with_own_source > 300, "{met}");
+    assert!(met.lists_in_last_frame > 300, "{met}");
     assert!(met.lists_uncovered > 1500, "{met}");
     assert!(met.lists_failing > 1000, "{met}");
     assert!(met.changed_words > 40_000, "{met}");

@@ -185,7 +185,7 @@ pub fn compare(
                 machine: machine_from_bytes(&one.bytes).expect("a record"),
                 memory: one.end,
             };
-            met.count_list(machine.frame_count, one.code, &end);
+            met.count_list(start, one.code);
             if rng.chance(25) {
                 end.memory = two.end;
             }

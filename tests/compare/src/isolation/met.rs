@@ -5,7 +5,8 @@ use crate::runs::{kind, number, Kind};
 use generator::handed_on::{next_list, Found};
 use generator::records::Snapshot;
 use reference::checks::{live_check, Flag};
-use reference::{Fault, Machine};
+use reference::record::FRAMES;
+use reference::{stretch, Fault, Machine};
 use std::fmt;
 
 /// Counts over compared stretches.
@@ -22,8 +23,13 @@ pub struct Met {
     pub with_hidden: u64,
     /// Stretches with words hidden only because a capability's source fails.
     pub hidden_by_source: u64,
-    /// Stretches that ended with a call whose list's source is not the caller.
+    /// Stretches that ended with a call with a tagged a whose list's source is
+    /// not the caller.
     pub lists_handed_on: u64,
+    /// Those whose list's source is the caller itself.
+    pub lists_with_own_source: u64,
+    /// Those of both kinds that took the last free frame.
+    pub lists_in_last_frame: u64,
     /// Those that ended with 24 for a list at a tagged a.
     pub lists_uncovered: u64,
     /// Those that ended with 25 at a word of such a list that is covered.
@@ -56,20 +62,27 @@ impl Met {
         self.hidden_by_source += u64::from(by_source);
     }
 
-    /// Counts how a stretch of a machine with so many frames ended, by the list
-    /// that it handed on at its end.
-    pub(super) fn count_list(&mut self, frames: u8, code: u32, end: &Snapshot) {
-        let Snapshot { machine, memory } = end;
-        if kind(code) == Some(Kind::Crossed) && machine.frame_count > frames {
-            let passed_on = machine.live_frame().is_some_and(|frame| {
-                let list = frame.capabilities().last();
-                list.is_some_and(|list| list.source != frame.domain)
-            });
-            self.lists_handed_on += u64::from(passed_on);
-        }
-        match (number(code), next_list(machine, memory)) {
+    /// Counts how a stretch from this start ended, by the list that its last
+    /// instruction handed on or did not.
+    pub(super) fn count_list(&mut self, start: &Snapshot, code: u32) {
+        let crossed = kind(code) == Some(Kind::Crossed);
+        let Snapshot {
+            mut machine,
+            mut memory,
+        } = start.clone();
+        let before_the_last = code as u16 - u16::from(crossed);
+        let ran = stretch(&mut machine, &mut memory, before_the_last);
+        ran.expect("a sound record");
+        match (number(code), next_list(&machine, &memory)) {
             (24, Some(Found::Uncovered(_))) => self.lists_uncovered += 1,
             (25, Some(Found::Covered { .. })) => self.lists_failing += 1,
+            (_, Some(Found::Covered { sources, .. })) if crossed => {
+                let is_own = sources[0] == machine.domain;
+                self.lists_with_own_source += u64::from(is_own);
+                self.lists_handed_on += u64::from(!is_own);
+                let is_last = usize::from(machine.frame_count) + 1 == FRAMES;
+                self.lists_in_last_frame += u64::from(is_last);
+            }
             _ => {}
         }
     }
@@ -93,8 +106,13 @@ impl fmt::Display for Met {
         writeln!(f, "  hidden by a failing source {}", self.hidden_by_source)?;
         writeln!(
             f,
-            "lists handed on with another source {} not covered {} failing {}",
-            self.lists_handed_on, self.lists_uncovered, self.lists_failing
+            "lists handed on with another source {} the caller itself {} in the last frame {}",
+            self.lists_handed_on, self.lists_with_own_source, self.lists_in_last_frame
+        )?;
+        writeln!(
+            f,
+            "lists not covered {} failing {}",
+            self.lists_uncovered, self.lists_failing
         )?;
         writeln!(f, "words changed {}", self.changed_words)?;
         writeln!(f, "  hidden words stored to {}", self.written_unseen)

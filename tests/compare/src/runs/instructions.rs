@@ -10,7 +10,7 @@ use reference::words::{Opcode, Pointer, OPCODES};
 /// A sound machine whose next instruction is a random one, or a call that hands
 /// a list on.
 pub fn about_to_execute(rng: &mut Rng) -> Snapshot {
-    if rng.chance(15) {
+    if rng.chance(20) {
         return about_to_hand_on(rng);
     }
     let mut snapshot = records::sound(rng);

@@ -1,6 +1,7 @@
 //! Counts over calls that hand a list on.
 
 use super::found::{find, reads_by_passed_on_source, Found, Uncovered, UNCOVERED};
+use reference::record::FRAMES;
 use reference::words::Instruction;
 use reference::{Completed, Fault, Machine};
 use std::fmt;
@@ -9,6 +10,7 @@ use std::fmt;
 pub(crate) struct Before {
     found: Option<Found>,
     caller: u8,
+    frames: u8,
     reads_by_source: bool,
 }
 
@@ -17,6 +19,7 @@ impl Before {
         Before {
             found: find(machine, memory, instruction),
             caller: machine.domain,
+            frames: machine.frame_count,
             reads_by_source: reads_by_passed_on_source(machine, instruction),
         }
     }
@@ -34,6 +37,10 @@ pub struct HandedOn {
     pub completed: u64,
     /// One whose list's source is not the caller.
     pub other_source: u64,
+    /// One whose list's source is the caller itself.
+    pub own_source: u64,
+    /// One that took the last free frame.
+    pub last_frame: u64,
     /// One where the first covering capability's source isn't the last one's.
     pub two_sources: u64,
     /// A word was read through a list capability by its source where the
@@ -46,12 +53,12 @@ impl HandedOn {
     pub(crate) fn count(&mut self, before: Before, outcome: Result<Completed, Fault>) {
         self.read_by_source += u64::from(before.reads_by_source && outcome.is_ok());
         if let Some(found) = before.found {
-            self.count_call(found, before.caller, outcome);
+            self.count_call(found, &before, outcome);
         }
     }
 
-    /// Counts a call by a domain for whose list this was found.
-    fn count_call(&mut self, found: Found, caller: u8, outcome: Result<Completed, Fault>) {
+    /// Counts a call for whose list this was found.
+    fn count_call(&mut self, found: Found, before: &Before, outcome: Result<Completed, Fault>) {
         match (found, outcome) {
             (Found::Uncovered(why), Err(Fault::NoCapability)) => {
                 self.uncovered[why as usize] += 1;
@@ -62,7 +69,10 @@ impl HandedOn {
             (Found::Covered { sources, .. }, Ok(Completed::Called)) => {
                 let [first, last] = sources;
                 self.completed += 1;
-                self.other_source += u64::from(first != caller);
+                self.other_source += u64::from(first != before.caller);
+                self.own_source += u64::from(first == before.caller);
+                let is_last = usize::from(before.frames) + 1 == FRAMES;
+                self.last_frame += u64::from(is_last);
                 self.two_sources += u64::from(first != last);
             }
             _ => {}
@@ -78,6 +88,8 @@ impl HandedOn {
         once(&mut self.failing_word, run.failing_word);
         once(&mut self.completed, run.completed);
         once(&mut self.other_source, run.other_source);
+        once(&mut self.own_source, run.own_source);
+        once(&mut self.last_frame, run.last_frame);
         once(&mut self.two_sources, run.two_sources);
         once(&mut self.read_by_source, run.read_by_source);
     }
@@ -98,8 +110,13 @@ impl fmt::Display for HandedOn {
     fn fmt(&self, out: &mut fmt::Formatter) -> fmt::Result {
         writeln!(
             out,
-            "runs with a list handed on {}, source not the caller {}, first source not the last {}",
-            self.completed, self.other_source, self.two_sources
+            "runs with a list handed on {}, source not the caller {}, source the caller itself {}",
+            self.completed, self.other_source, self.own_source
+        )?;
+        writeln!(
+            out,
+            "runs with a list handed on, first source not the last {}, into the last frame {}",
+            self.two_sources, self.last_frame
         )?;
         let reads = self.read_by_source;
         writeln!(

@@ -1,75 +1,37 @@
-//! Images in which a relay calls with a list that it was given as an argument.
+//! Images in which a relay calls with a list of another domain, or of its own
+//! where it is called back.
 
-use super::cover::{self, Cover, Piece, AROUND};
+use super::cover::{Cover, AROUND};
+use super::plan::{Plan, LONGEST};
 use crate::random::Rng;
 use crate::subsystem::{arithmetic, image_of, Subsystem};
 use assembler::*;
 
-/// Most words of a segment.
-const LONGEST: u32 = 4096;
 /// The tag of a pointer word.
 const TAG: u32 = 0x8000_0000;
-/// Where each domain but the origin keeps a.
+/// Where each domain keeps a.
 const KEPT: i32 = 3;
 /// A pointer word to words of the origin that may be passed on as arguments of
 /// the list.
-const SHARED: u32 = 0x1002;
+const SHARED: u32 = 0x1004;
 /// How many these are.
 const SHARED_WORDS: u32 = 4;
 
-/// Who takes part, and the list handed on, which has a segment of its own.
-struct Plan {
-    cover: Cover,
-    pieces: Vec<Piece>,
-    n: u32,
-    segment: u32,
-    at: u32,
-    /// The first relay's domain. The domain before it gives it its arguments:
-    /// the origin, 0, or a giver.
-    relay: u32,
-    /// The domain called last, after one or two relays.
-    called: u32,
-}
-
-impl Plan {
-    /// How many words the list has.
-    fn length(&self) -> u32 {
-        3 + 2 * self.n
-    }
-
-    /// A pointer word to a word of the list.
-    fn word(&self, k: u32) -> u32 {
-        pointer(self.segment, (self.at + k).min(LONGEST - 1))
-    }
-
-    /// The segment where two relays go back.
-    fn way_back(&self) -> u32 {
-        self.segment + 1
-    }
-
-    /// Whether a giver comes between the origin and the relay.
-    fn has_giver(&self) -> bool {
-        self.relay == 2
-    }
-
-    /// Whether there is one relay.
-    fn has_one_relay(&self) -> bool {
-        self.called == self.relay + 1
-    }
-}
-
-/// A whole program: the origin, perhaps through a giver, calls the relay, which
-/// hands the origin's list on, perhaps through a second relay.
+/// A whole program: the origin, perhaps through a giver, calls the relay, or is
+/// called back as the relay, which hands the origin's list on, perhaps through
+/// two more relays.
 pub fn build(rng: &mut Rng) -> ImageBuilder {
-    let plan = plan(rng);
+    let plan = Plan::new(rng);
     let mut parts: Vec<Subsystem> = (0..=plan.called).map(|domain| part(rng, domain)).collect();
     let start = origin(rng, &plan, &mut parts[0]);
-    if plan.has_giver() {
+    if plan.giver {
         giver(&plan, &mut parts[1]);
     }
     let back = relay(rng, &plan, &mut parts[plan.relay as usize]);
     if !plan.has_one_relay() {
-        second_relay(rng, &plan, &mut parts[plan.relay as usize + 1]);
+        let [second, third] = plan.further_relays();
+        second_relay(rng, &plan, &mut parts[second as usize]);
+        third_relay(rng, &plan, &mut parts[third as usize]);
     }
     let (list, good) = list(rng, &plan, &mut parts[plan.relay as usize], back);
     called(rng, &plan, &mut parts[plan.called as usize], &good);
@@ -81,58 +43,37 @@ pub fn build(rng: &mut Rng) -> ImageBuilder {
     image
 }
 
-/// Chooses what the list is, how it is covered and who takes part.
-fn plan(rng: &mut Rng) -> Plan {
-    let cover = cover::choose(rng);
-    let n = rng.below(9);
-    let last = LONGEST - (3 + 2 * n);
-    let relay = 1 + u32::from(cover.needs_giver() || rng.chance(50));
-    let called = relay + rng.pick(&[1, 1, 1, 1, 2]);
-    let at = match cover {
-        Cover::PastTheEnd => rng.between(last + 1, LONGEST - 1),
-        _ if rng.chance(5) => last,
-        _ => rng.between(AROUND, 6),
-    };
-    Plan {
-        cover,
-        pieces: cover::pieces(rng, cover, 3 + 2 * n),
-        n,
-        segment: 2 * (called + 1),
-        at,
-        relay,
-        called,
-    }
-}
-
-/// A domain whose gate, if it has one, continues at its first instruction.
+/// A domain with a gate, which leads to its first instruction.
 fn part(rng: &mut Rng, domain: u32) -> Subsystem {
-    let mut part = Subsystem::new(domain, u32::from(domain > 0));
+    let mut part = Subsystem::new(domain, 1);
+    enter_here(&mut part);
+    assert_eq!(part.data.word(0) as i32, KEPT);
     if domain == 0 {
         let first = part.linked_block(rng, SHARED_WORDS);
         assert_eq!(part.data_pointer(first), SHARED);
-    } else {
-        let here = part.here();
-        part.data.set(0, here);
-        assert_eq!(part.data.word(0) as i32, KEPT);
     }
     part
 }
 
-/// A pointer word to the gate of the domain after this one.
-fn next_gate(part: &Subsystem) -> u32 {
-    pointer(part.code_segment() + 2, 0)
+/// Lets a domain's gate lead to its next instruction.
+fn enter_here(part: &mut Subsystem) {
+    let here = part.here();
+    part.data.set(0, here);
+}
+
+/// A pointer word to a domain's gate.
+fn gate(domain: u32) -> u32 {
+    pointer(2 * domain, 0)
 }
 
 /// Adds the origin's code, which calls the giver or the relay, now and then
 /// with a tagged a and no frame. Gives a pointer word to where it begins.
 fn origin(rng: &mut Rng, plan: &Plan, part: &mut Subsystem) -> u32 {
-    let list = if plan.has_giver() {
-        givers_list(plan)
-    } else {
-        relays_list(plan)
+    let (list, gate) = match plan.giver {
+        true => (givers_list(plan), gate(1)),
+        false => (relays_list(plan), gate(plan.relay)),
     };
     let list = part.data.block(list.words());
-    let gate = next_gate(part);
     let start = part.here();
     part.repeat(rng.between(2, 5), |part| arithmetic(rng, part));
     if plan.cover == Cover::Elsewhere && rng.chance(60) {
@@ -161,7 +102,7 @@ fn givers_list(plan: &Plan) -> ArgumentList {
 /// and the words to pass on. What isn't a giver's own is passed on by it.
 fn relays_list(plan: &Plan) -> ArgumentList {
     let mut list = ArgumentList::new(0);
-    let passed_on = if plan.has_giver() { TAG } else { 0 };
+    let passed_on = if plan.giver { TAG } else { 0 };
     for piece in &plan.pieces {
         let first = (plan.at as i32 + piece.first) as u32;
         let length = piece.length.min(LONGEST - first);
@@ -174,9 +115,8 @@ fn relays_list(plan: &Plan) -> ArgumentList {
 /// Adds the giver's code, which calls the relay.
 fn giver(plan: &Plan, part: &mut Subsystem) {
     let list = part.data.block(relays_list(plan).words());
-    let gate = next_gate(part);
     part.put(spp(A, B, KEPT));
-    part.call_with_list(list, gate);
+    part.call_with_list(list, gate(plan.relay));
     part.put(epp(A, B, KEPT).indirect());
     part.put_return();
 }
@@ -184,10 +124,11 @@ fn giver(plan: &Plan, part: &mut Subsystem) {
 /// Adds the relay's code. Gives a pointer word to where a call with the list
 /// goes back.
 fn relay(rng: &mut Rng, plan: &Plan, part: &mut Subsystem) -> u32 {
+    enter_here(part);
     arithmetic(rng, part);
     part.put(spp(A, B, KEPT));
     point_to_list(rng, plan, part);
-    part.put_through(call, next_gate(part));
+    part.put_through(call, gate(plan.after_relay()));
     let back = part.here();
     part.put(epp(A, B, KEPT).indirect());
     part.put_return();
@@ -197,11 +138,29 @@ fn relay(rng: &mut Rng, plan: &Plan, part: &mut Subsystem) -> u32 {
     }
 }
 
-/// Adds the code of a relay that hands the list on again.
+/// Adds the code of the second relay, which counts its calls and hands the list
+/// on to the third one or, the last time, to the domain called last.
 fn second_relay(rng: &mut Rng, plan: &Plan, part: &mut Subsystem) {
-    use_list(rng, plan, part);
+    let rounds = part.data.word(plan.rounds) as i32;
     part.put(spp(A, B, KEPT));
-    part.put_through(call, next_gate(part));
+    part.put(load(A, rng.below(plan.length()) as i32));
+    part.put(load(B, rounds));
+    part.put_on(sub, 1);
+    part.put(store(B, rounds));
+    let [_, third] = plan.further_relays();
+    part.skip_if(jz, |part| {
+        part.put_through(call, gate(third));
+    });
+    part.put_through(call, gate(plan.called));
+    part.put(halt());
+}
+
+/// Adds the code of the third relay, which hands the list back to the second.
+fn third_relay(rng: &mut Rng, plan: &Plan, part: &mut Subsystem) {
+    let [second, _] = plan.further_relays();
+    part.put(spp(A, B, KEPT));
+    part.put(add(A, rng.below(plan.length()) as i32));
+    part.put_through(call, gate(second));
     part.put(halt());
 }
 
@@ -316,17 +275,19 @@ fn add_list(rng: &mut Rng, plan: &Plan, image: &mut ImageBuilder, list: Vec<u32>
 /// Opens the gates and gives each domain its rights on the list.
 fn add_rights(rng: &mut Rng, plan: &Plan, image: &mut ImageBuilder) {
     let [list, way_back] = [plan.segment, plan.way_back()].map(|segment| segment as u8);
-    for domain in 0..plan.called as u8 {
-        let code = 2 * (domain + 1);
-        image.rights(domain, code, G).gates(code, 1, domain + 1);
+    for (caller, called) in plan.calls() {
+        let code = 2 * called as u8;
+        image
+            .rights(caller as u8, code, G)
+            .gates(code, 1, called as u8);
+    }
+    for relay in plan.relays() {
+        image.rights(relay as u8, list, rng.pick(&[0, 0, 0, R]));
+        image.rights(relay as u8, way_back, rng.pick(&[E, R | E]));
     }
     image.rights(0, list, rng.pick(&[R | W, R | W, R | W, R]));
-    if plan.has_giver() {
+    if plan.giver {
         image.rights(1, list, plan.cover.givers_rights(rng));
-    }
-    for domain in plan.relay as u8..plan.called as u8 {
-        image.rights(domain, list, rng.pick(&[0, 0, 0, R]));
-        image.rights(domain, way_back, rng.pick(&[E, R | E]));
     }
     image.rights(plan.called as u8, list, rng.pick(&[0, 0, R]));
 }

@@ -4,6 +4,7 @@ mod counts;
 mod cover;
 mod found;
 mod image;
+mod plan;
 mod records;
 
 pub(crate) use counts::Before;

@@ -9,11 +9,16 @@ use reference::words::Pointer;
 use reference::SEGMENT_WORDS;
 
 /// A sound record whose next instruction is mostly a call through a gate with a
-/// tagged a. The capabilities of the live frame lie on the list in any way.
+/// tagged a. The capabilities of the live frame lie on the list in any way. Two
+/// in five have six or seven frames in use.
 pub fn about_to_hand_on(rng: &mut Rng) -> Snapshot {
     loop {
         let mut snapshot = records::sound(rng);
         let machine = &mut snapshot.machine;
+        if rng.chance(40) {
+            let frames = rng.between(6, 7) as u8;
+            records::add_frames(rng, machine, frames);
+        }
         if !(1..FRAMES).contains(&usize::from(machine.frame_count)) {
             continue;
         }
@@ -51,11 +56,7 @@ fn open_gate(rng: &mut Rng, machine: &mut Machine) -> Option<Pointer> {
 fn put_list(rng: &mut Rng, snapshot: &mut Snapshot) {
     let machine = &mut snapshot.machine;
     let words = list_words(rng, machine);
-    let place = records::pointer(rng, machine);
-    let list = Pointer {
-        tag: rng.chance(95),
-        ..place
-    };
+    let list = list_place(rng, machine, words.len() as u16);
     machine.pointers[ARGUMENT_POINTER] = list;
     let before = &machine.segments[..usize::from(list.segment)];
     let first: usize = before.iter().map(|row| usize::from(row.length)).sum();
@@ -75,6 +76,19 @@ fn put_list(rng: &mut Rng, snapshot: &mut Snapshot) {
     };
 }
 
+/// A pointer, mostly tagged, to a place where `length` words mostly exist.
+fn list_place(rng: &mut Rng, machine: &Machine, length: u16) -> Pointer {
+    let place = records::pointer(rng, machine);
+    let row = machine.segments[usize::from(place.segment)];
+    let last = row.length.saturating_sub(length);
+    let word = match rng.chance(80) {
+        true => place.word.min(last),
+        false => place.word,
+    };
+    let tag = rng.chance(95);
+    Pointer { tag, word, ..place }
+}
+
 /// The words of a list, mostly a good one.
 fn list_words(rng: &mut Rng, machine: &Machine) -> Vec<u32> {
     let n = rng.below(9);
@@ -86,7 +100,7 @@ fn list_words(rng: &mut Rng, machine: &Machine) -> Vec<u32> {
     let mut words = vec![shown, back, rng.word()];
     for _ in 0..n {
         let place = records::pointer(rng, machine);
-        let tag = place.tag && rng.chance(30);
+        let tag = place.tag && rng.chance(10);
         words.push(Pointer { tag, ..place }.to_word());
         words.push(mode(1, rng.pick(&[R, W, R | W])));
     }
@@ -97,12 +111,12 @@ fn list_words(rng: &mut Rng, machine: &Machine) -> Vec<u32> {
 /// one, or anywhere. Its source may mostly read there.
 fn capability(rng: &mut Rng, machine: &Machine, list: Pointer, length: u32) -> Capability {
     let anywhere = records::capability(rng, machine);
-    let (first, last) = match rng.below(8) {
+    let (first, last) = match rng.below(9) {
         0 => return anywhere,
-        1..=3 => (0, length + rng.below(3)),
-        4 => (0, rng.between(1, length - 1)),
-        5 => (rng.below(3), length),
-        6 => (rng.between(1, length - 1), length),
+        1..=4 => (0, length + rng.below(3)),
+        5 => (0, rng.between(1, length - 1)),
+        6 => (rng.below(3), length),
+        7 => (rng.between(1, length - 1), length),
         _ => {
             let word = rng.below(length);
             (word, word + 1)
@@ -122,15 +136,17 @@ fn capability(rng: &mut Rng, machine: &Machine, list: Pointer, length: u32) -> C
     }
 }
 
-/// A domain, mostly one that has R on the segment.
+/// The executing domain, or another, mostly one that has R on the segment.
 fn source(rng: &mut Rng, machine: &Machine, segment: u8) -> u8 {
     let domains = 0..machine.domain_count;
     let rights = |domain: u8| machine.domains[usize::from(domain)].rights;
     let readers: Vec<u8> = domains
         .filter(|&domain| rights(domain)[usize::from(segment)] & R != 0)
         .collect();
-    match readers.is_empty() || rng.chance(20) {
-        true => rng.below(u32::from(machine.domain_count)) as u8,
-        false => rng.pick(&readers),
+    let own = readers.contains(&machine.domain);
+    match rng.below(10) {
+        0..=2 if own => machine.domain,
+        0..=7 if !readers.is_empty() => rng.pick(&readers),
+        _ => rng.below(u32::from(machine.domain_count)) as u8,
     }
 }
