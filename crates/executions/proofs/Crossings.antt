@@ -67,7 +67,7 @@ module _ (m : Machine) (w : Whole m) where
   abbrev s : Sound m
   s = w .sound
 
-  pub in-use : inUse (m .depth) ≡ m .depth
+  in-use : inUse (m .depth) ≡ m .depth
   in-use = simp (le-leb (m .depth) 8 (s .frames .most))
 
   live-sound : (1 ≤ m .depth) → FrameSound domains (live m)

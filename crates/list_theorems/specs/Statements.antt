@@ -89,7 +89,7 @@ FirstWordRefused = (m : Machine) (read : Reader) (gate : Pointer) (number : ℕ)
 abbrev pub ManyRefused : Type 0
 ManyRefused = (m : Machine) (read : Reader) (gate : Pointer) (n : ℕ) → listWord read (listAt m) 0 ≡ ok n → 8 < n → enterOf m read gate ≡ refuse 30
 
--- a tagged list that passes word 4,095 is covered by nothing
+-- a tagged list that passes word 4,095 is covered by nothing, so the call gives 24
 abbrev pub LongRefused : Type 0
 LongRefused =
     (m : Machine) (words : List ℕ) (gate : Pointer) (n : ℕ) → SoundRecord m → plannedBy m words ≡ ok (enter gate) → listAt m .tag ≡ true
@@ -108,14 +108,14 @@ listPlace m k = record { word = listAt m .word + k; segment = listAt m .segment;
 abbrev pub reads : Capability → Pointer → Bool
 reads c p = coversOf (p .segment) (p .word) 1 true false c
 
--- the called domain reads a word of its list by the rights of the list's source, where no argument comes before
+-- the called domain reads a word of its list by the rights of the list's source, where no argument's capability reads that word
 abbrev pub ListRead : Type 0
 ListRead =
     (m n : Machine) (words : List ℕ) → SoundRecord m → CalledTo m words n → (l : Listed m words n) (k : ℕ) → k < 3 + 2 * l .arguments
     → ((j : ℕ) → j < l .arguments → reads (getD (live n .capabilities) j noCapability) (listPlace m k) ≡ false)
     → readWord n words (listPlace m k) ≡ readBy words (staticCheck m (l .source) flag.Read (listAt m .segment) (listAt m .word + k))
 
--- and whatever the arguments are, a word of the list is never out of reach: what it may give is 25
+-- whatever the arguments are, a read of a word of the list that is refused is refused with 25, never with 24
 abbrev pub ListMatched : Type 0
 ListMatched =
     (m n : Machine) (words : List ℕ) → SoundRecord m → CalledTo m words n → (l : Listed m words n) (k : ℕ) → k < 3 + 2 * l .arguments

@@ -17,7 +17,7 @@ relay word cs =
     pointing 0 (taggedTo 2 word)
     (machineOf (record { lengths = 2 ∷ 1 ∷ 4096 ∷ []; gates = 0 ∷ 1 ∷ []; rights = (5 ∷ 8 ∷ []) ∷ (0 ∷ 0 ∷ 1 ∷ []) ∷ [] ∷ (0 ∷ 4 ∷ []) ∷ []; capabilities = cs }))
 
--- a CALL through the pointer word behind it, a LOAD of word k of the list by the called domain, and the words of segment 2 from word 4 on
+-- a CALL through the pointer word behind it; the called domain's LOAD of word k of the list, or with 0x8000 more through it; the words of segment 2 from word 4 on
 abbrev relayWords : ℕ → List ℕ → List ℕ
 relayWords k list = sceneMemory (0x0800B001 ∷ 0x00001000 ∷ (0x01000000 + k) ∷ 0 ∷ 0 ∷ 0 ∷ 0 ∷ list)
 

@@ -181,7 +181,7 @@ fn each_word_of_a_single_argument_has_its_own_first_match() {
 }
 
 #[test]
-fn the_words_of_a_list_handed_on_need_not_exist() {
+fn word_two_of_a_list_handed_on_need_not_exist() {
     let covering = capability(3, 8, 3, R, CALLED);
     let mut bench = relay(&[], &[covering]);
     bench.machine.pointers[0] = tagged_at(3, 8);
