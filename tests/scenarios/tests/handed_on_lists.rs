@@ -19,25 +19,6 @@ fn the_covering_capabilitys_source_is_passed_on() {
 }
 
 #[test]
-fn the_whole_effect_of_handing_a_list_on() {
-    let mut bench = relay(&list(1), &[on(0, 5, R, MAKER)]);
-    bench.machine.pointers[1] = tagged_at(5, 6);
-    let mut expected = bench.machine.clone();
-    expected.frame_count = 2;
-    let made = [capability(1, 0, 1, R, RELAY), on(0, 5, R, MAKER)];
-    expected.frames[1] = frame(RELAY, &made);
-    expected.frames[1].return_location = untagged_at(0, 1);
-    expected.frames[1].s = tagged_at(5, 6);
-    expected.pointers[2] = untagged_at(3, 0);
-    expected.domain = CALLED;
-    expected.location.segment = 2;
-    expected.location.word = 0;
-    bench.steps(1);
-    assert_eq!(bench.machine, expected);
-    assert_eq!(bench.changed(), []);
-}
-
-#[test]
 fn a_covering_capability_may_have_write_too() {
     for n in [0, 8] {
         let covering = on(0, words_of(n), R | W, MAKER);

@@ -201,9 +201,11 @@ fn the_whole_effect_with_one_to_seven_frames_in_use() {
     for frames in 1..=7 {
         let older = [capability(3, 0, 1, R, CALLED)];
         let mut bench = above(&older, frames, relay(&list(1), &[list_there]));
+        bench.machine.pointers[1] = tagged_at(5, 6);
         let mut expected = bench.machine.clone();
         let mut made = frame(RELAY, &[capability(1, 0, 1, R, RELAY), list_there]);
         made.return_location = untagged_at(0, 1);
+        made.s = tagged_at(5, 6);
         expected.frames[usize::from(frames)] = made;
         expected.frame_count = frames + 1;
         expected.pointers[2] = untagged_at(3, 0);
