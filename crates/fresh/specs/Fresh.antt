@@ -4,8 +4,9 @@ use lib.ListN.{getD, replicate, set}
 use Rattle.state.specs.declared.record.Layout.{Layout}
 use Rattle.state.specs.declared.record.Machine.{Machine}
 use Rattle.state.specs.Record.{noPointer, freeFrame}
+use Rattle.recent.specs.Registers.{freshRegisters}
 
--- it is at the start, with register b (pointer 2) at the start domain's stack, and the rest zero
+-- it is at the start, with register b (pointer 2) at the start domain's stack; the registers of recent capabilities are empty, and the rest is zero
 unfoldable pub freshOf : Layout → Machine
 freshOf l =
     record {
@@ -13,6 +14,7 @@ freshOf l =
       registers = record { a = 0; word = l .start .word; segment = l .start .segment; domain = l .start .domain };
       pointers = set (replicate 8 noPointer) 2 (record { word = 0; segment = getD (l .stacks) (l .start .domain) 0; tag = false });
       frames = replicate 8 freeFrame;
+      recent = freshRegisters;
       depth = 0;
     }
 

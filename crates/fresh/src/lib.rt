@@ -2,6 +2,7 @@
 ghost use mathlib.Core.Path.{_≡_};
 ghost use lib.ListN.{getD};
 ghost use Rattle.fresh.specs.Fresh.{freshOf, emptyLayout};
+use recent::registers::fresh_registers;
 use state::frames::free_frame;
 use state::record::Layout;
 use state::record::Machine;
@@ -37,6 +38,7 @@ pub fn fresh(layout: Layout) -> Machine
     };
     let frame = free_frame();
     let frames = [frame; 8];
+    let recent = fresh_registers();
     let registers = Registers {
         a: 0,
         word: start.word,
@@ -48,6 +50,7 @@ pub fn fresh(layout: Layout) -> Machine
         registers,
         pointers,
         frames,
+        recent,
         depth: 0,
     }
 }

@@ -15,12 +15,12 @@ use Rattle.state.specs.declared.record.Capability.{Capability}
 use Rattle.state.specs.declared.record.Frame.{Frame}
 use Rattle.state.specs.declared.record.Layout.{Layout}
 use Rattle.state.specs.declared.record.Machine.{Machine}
-use Rattle.state.specs.Record.{noPointer, noCapability, noFrame, freeFrame}
+use Rattle.state.specs.Record.{noPointer, noCapability, noFrame, freeFrame, noRegister}
 use Rattle.layout_soundness.proofs.Tests.{both, join}
 use Rattle.layout_soundness.proofs.All.{each}
 use Rattle.soundness.specs.Sound.{emptyCapability, emptyPointer, emptyFrame, soundTest}
 use Rattle.soundness.proofs.Facts.{sound-facts}
-use Rattle.snapshot_format.specs.RecordForm.{pointerForm, capabilityForm, frameForm, startForm, layoutForm, registersForm, recordForm, recordIn, held, recordBytes, withRecord, pointerShape, capabilityShape, frameShape, startShape, layoutShape, registersShape, recordShape}
+use Rattle.snapshot_format.specs.RecordForm.{pointerForm, capabilityForm, frameForm, startForm, layoutForm, registersForm, registerForm, recordForm, recordIn, held, recordBytes, withRecord, pointerShape, capabilityShape, frameShape, startShape, layoutShape, registersShape, registerShape, recordShape}
 use Rattle.snapshot_format.specs.Statements.{FullArrays, RecordRoundTrip, BytesRoundTrip}
 use Rattle.snapshot_format.proofs.Laws.{Lawful, Always, Counted, byte-laws, pair-laws, quad-laws, flag-laws, then-laws, seen-laws, rows-laws, counted-laws}
 
@@ -115,6 +115,11 @@ registers-laws =
     seen-laws Always Always registersShape (then-laws quad-laws (then-laws pair-laws (then-laws byte-laws byte-laws)))
     (λ p l. (tt, (tt, (tt, tt)))) (λ p l r. (tt, (tt, (tt, tt)))) (λ p. refl) (λ b i s. refl)
 
+pub register-laws : Lawful registerForm Always Always
+register-laws =
+    seen-laws Always Always registerShape
+    (then-laws capability-laws (then-laws byte-laws byte-laws)) (λ r l. (tt, (tt, tt))) (λ r l s. (tt, (tt, tt))) (λ r. refl) (λ b i s. refl)
+
 abbrev pub Tested : Machine → Type 0
 Tested m = soundTest m ≡ true
 
@@ -131,14 +136,14 @@ sound-rows m w e =
 pub record-laws : Lawful recordForm FullArrays Tested
 record-laws =
     seen-laws FullArrays Tested recordShape
-    (then-laws layout-laws (then-laws registers-laws (then-laws (rows-laws 8 noPointer pointer-laws) (counted-laws 8 freeFrame noFrame frame-laws))))
-    (λ m w. ((w .lengths, w .gates, w .gatedomains, w .stacks, w .rights), (tt, (w .pointers, record { room = w .frames; rows = w .capabilities }))))
-    (λ m w e. (tt, (tt, (tt, sound-rows m w e)))) (λ m. refl) (λ b i s. refl)
+    (then-laws layout-laws (then-laws registers-laws (then-laws (rows-laws 8 noPointer pointer-laws) (then-laws (counted-laws 8 freeFrame noFrame frame-laws) (rows-laws 16 noRegister register-laws)))))
+    (λ m w. ((w .lengths, w .gates, w .gatedomains, w .stacks, w .rights), (tt, (w .pointers, (record { room = w .frames; rows = w .capabilities }, w .recent)))))
+    (λ m w e. (tt, (tt, (tt, (sound-rows m w e, tt))))) (λ m. refl) (λ b i s. refl)
 
-pub record-size : recordForm .size ≡ 919
+pub record-size : recordForm .size ≡ 1079
 record-size = refl
 
-pub record-long : (m : Machine) → FullArrays m → length (recordBytes m) ≡ 919
+pub record-long : (m : Machine) → FullArrays m → length (recordBytes m) ≡ 1079
 unfolding recordBytes
 record-long m w = record-laws .long m w
 
@@ -155,16 +160,16 @@ pub record-round-trip : RecordRoundTrip
 unfolding held recordIn recordBytes
 record-round-trip m rest w e =
     let b = recordForm .bytes m ++ rest in
-    let l : 919 ≤ length b = omega (arith, record-laws .long m w, length-append (recordForm .bytes m) rest) in
+    let l : 1079 ≤ length b = omega (arith, record-laws .long m w, length-append (recordForm .bytes m) rest) in
     let x = record-laws .back m w e b 0 (λ k h. ap (λ (n : ℕ). getD b n 0) (zero-add k) ∙ List·getD-append (recordForm .bytes m) rest 0 k h) in
-    given (leb 919 (length b)) (recordForm .proper b 0 && soundTest (recordForm .value b 0)) (recordForm .value b 0) m _ _ (le-leb 919 (length b) l)
+    given (leb 1079 (length b)) (recordForm .proper b 0 && soundTest (recordForm .value b 0)) (recordForm .value b 0) m _ _ (le-leb 1079 (length b) l)
     (join (x .1) (ap soundTest (x .0) ∙ e)) (x .0)
 
 pub bytes-round-trip : BytesRoundTrip
 unfolding held recordIn recordBytes withRecord
 bytes-round-trip b m s e =
-    let t = asked (leb 919 (length b)) (recordForm .proper b 0 && soundTest (recordForm .value b 0)) (recordForm .value b 0) m _ _ e in
-    let h : 919 ≤ length b = leb-true 919 (length b) (t .0) in
+    let t = asked (leb 1079 (length b)) (recordForm .proper b 0 && soundTest (recordForm .value b 0)) (recordForm .value b 0) m _ _ e in
+    let h : 1079 ≤ length b = leb-true 1079 (length b) (t .0) in
     let u = both (recordForm .proper b 0) (soundTest (recordForm .value b 0)) (t .1) in
-    simp (le-ltb (length b) 919 h)
-    (ap (λ (l : List ℕ). l ++ drop 919 b) (ap (recordForm .bytes) (sym (t .2)) ∙ record-laws .forth b 0 s h (u .0)) ∙ take-append-drop 919 b)
+    simp (le-ltb (length b) 1079 h)
+    (ap (λ (l : List ℕ). l ++ drop 1079 b) (ap (recordForm .bytes) (sym (t .2)) ∙ record-laws .forth b 0 s h (u .0)) ∙ take-append-drop 1079 b)

@@ -1,4 +1,4 @@
--- The machine record as 919 bytes: the fields of its structs in their order, the frames and a frame's capabilities after their number.
+-- The machine record as 1,079 bytes: the fields of its structs in their order, the frames and a frame's capabilities after their number.
 use Prim.Native.Nat.{ℕ}
 use mathlib.Core.Bool.{Bool, _&&_}
 use mathlib.Core.List.{List, _++_}
@@ -12,6 +12,7 @@ use Rattle.state.specs.declared.record.Frame.{Frame}
 use Rattle.state.specs.declared.record.Start.{Start}
 use Rattle.state.specs.declared.record.Layout.{Layout}
 use Rattle.state.specs.declared.record.Registers.{Registers}
+use Rattle.state.specs.declared.record.Register.{Register}
 use Rattle.state.specs.declared.record.Machine.{Machine}
 use Rattle.state.specs.Record.{noCapability, freeFrame}
 use Rattle.soundness.specs.Sound.{soundTest}
@@ -71,26 +72,36 @@ registersShape = record { whole = λ p. record { a = p .0; word = p .1 .0; segme
 abbrev pub registersForm : Format Registers
 registersForm = seenAs registersShape (quadForm then pairForm then byteForm then byteForm)
 
--- layout, registers, eight pointers, number of frames in use, eight frames
-abbrev pub recordShape : Shape (Layout × (Registers × (List Pointer × (ℕ × List Frame)))) Machine
-recordShape = record { whole = λ p. record { layout = p .0; registers = p .1 .0; pointers = p .1 .1 .0; frames = p .1 .1 .1 .1; depth = p .1 .1 .1 .0 }; parts = λ m. (m .layout, (m .registers, (m .pointers, (m .depth, m .frames)))) }
+-- capability, frame number, recency
+abbrev pub registerShape : Shape (Capability × (ℕ × ℕ)) Register
+registerShape = record { whole = λ p. record { capability = p .0; frame = p .1 .0; recency = p .1 .1 }; parts = λ r. (r .capability, (r .frame, r .recency)) }
+
+abbrev pub registerForm : Format Register
+registerForm = seenAs registerShape (capabilityForm then byteForm then byteForm)
+
+-- layout, registers, eight pointers, number of frames in use, eight frames, sixteen recent capabilities
+abbrev pub recordShape : Shape (Layout × (Registers × (List Pointer × ((ℕ × List Frame) × List Register)))) Machine
+recordShape = record {
+  whole = λ p. record { layout = p .0; registers = p .1 .0; pointers = p .1 .1 .0; frames = p .1 .1 .1 .0 .1; recent = p .1 .1 .1 .1; depth = p .1 .1 .1 .0 .0 };
+  parts = λ m. (m .layout, (m .registers, (m .pointers, ((m .depth, m .frames), m .recent))));
+}
 
 abbrev pub recordForm : Format Machine
-recordForm = seenAs recordShape (layoutForm then registersForm then rowsOf 8 pointerForm then counted 8 freeFrame frameForm)
+recordForm = seenAs recordShape (layoutForm then registersForm then rowsOf 8 pointerForm then counted 8 freeFrame frameForm then rowsOf 16 registerForm)
 
 -- the record in some bytes, in each part of its format
 unfoldable pub recordIn : List ℕ → Machine
 recordIn bytes = recordForm .value bytes 0
 
--- the sound record that bytes hold: 8 where they are fewer than 919, 9 where no sound record has these bytes
+-- the sound record that bytes hold: 8 where they are fewer than 1,079, 9 where no sound record has these bytes
 unfoldable pub held : List ℕ → Answer Machine
 held bytes =
-    require (leb 919 (length bytes)) outputTooShort >> require (recordForm .proper bytes 0 && soundTest (recordIn bytes)) notSound >>
+    require (leb 1079 (length bytes)) outputTooShort >> require (recordForm .proper bytes 0 && soundTest (recordIn bytes)) notSound >>
     ok (recordIn bytes)
 
 unfoldable pub recordBytes : Machine → List ℕ
 recordBytes m = recordForm .bytes m
 
--- bytes with a record in place of the first 919; those that are fewer stay
+-- bytes with a record in place of the first 1,079; those that are fewer stay
 unfoldable pub withRecord : List ℕ → Machine → List ℕ
-withRecord bytes m = if ltb (length bytes) 919 then bytes else recordBytes m ++ drop 919 bytes
+withRecord bytes m = if ltb (length bytes) 1079 then bytes else recordBytes m ++ drop 1079 bytes

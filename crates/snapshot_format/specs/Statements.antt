@@ -20,6 +20,7 @@ pub record FullArrays (m : Machine) : Type 0 where
   pub pointers : length (m .pointers) ≡ 8
   pub frames : length (m .frames) ≡ 8
   pub capabilities : (i : ℕ) → i < 8 → length (getD (m .frames) i noFrame .capabilities) ≡ 9
+  pub recent : length (m .recent) ≡ 16
 
 -- a sound record is read back from its bytes, whatever stands after them
 abbrev pub RecordRoundTrip : Type 0

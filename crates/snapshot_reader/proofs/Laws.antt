@@ -17,17 +17,20 @@ use Rattle.layout_soundness.proofs.All.{one-more}
 use Rattle.state.specs.Record.{freeFrame}
 use Rattle.snapshot_format.specs.Tabulate.{tabulate}
 use Rattle.snapshot_format.specs.Format.{rowsOf, counted, zeros}
-use Rattle.snapshot_format.specs.RecordForm.{pointerForm, frameForm, recordForm}
+use Rattle.snapshot_format.specs.RecordForm.{pointerForm, frameForm, registerForm, recordForm}
 use Rattle.snapshot_format.proofs.Fill.{Filled, filled-none, filled-next, filled-all}
 use Rattle.snapshot_reader.specs.Formed.{formed}
 
--- the number that enough bytes get: those of the pointers and of the frames decide it
+-- the number that enough bytes get: those of the pointers, of the frames and of the recent capabilities decide it
 module _ (b : List ℕ) where
-  record-proper : recordForm .proper b 0 ≡ (rowsOf 8 pointerForm .proper b 230 && counted 8 freeFrame frameForm .proper b 262)
+  abbrev flags-proper : Bool
+  flags-proper = rowsOf 8 pointerForm .proper b 230 && (counted 8 freeFrame frameForm .proper b 262 && rowsOf 16 registerForm .proper b 919)
+
+  record-proper : recordForm .proper b 0 ≡ flags-proper
   unfolding allFrom
   record-proper = refl
 
-  pub formed-as : (r : Bool) → 919 ≤ length b → r ≡ (rowsOf 8 pointerForm .proper b 230 && counted 8 freeFrame frameForm .proper b 262) → numberOf (require r notSound) ≡ numberOf (formed b)
+  pub formed-as : (r : Bool) → 1079 ≤ length b → r ≡ flags-proper → numberOf (require r notSound) ≡ numberOf (formed b)
   unfolding formed
   formed-as r h e = simp (le-leb _ _ h) (ap (λ (t : Bool). numberOf (require t notSound)) (e ∙ sym record-proper))
 

@@ -10,9 +10,11 @@ ghost use Rattle.snapshot_reader.specs.Formed.{formed, recordOr};
 use crate::parts::layout;
 use crate::parts::registers;
 use crate::proper::frames_proper;
+use crate::proper::recent_proper;
 use crate::proper::tags_proper;
 use crate::rows::frames;
 use crate::rows::pointers;
+use crate::rows::recent;
 use fresh::empty_layout;
 use fresh::fresh;
 use state::record::Machine;
@@ -21,13 +23,16 @@ use state::record::Machine;
 pub fn form_number(bytes: &[u8]) -> u8
     ensures { λ r. ⌜ r ≡ numberOf (formed (now (bytes .entry))) ⌝ }
 {
-    if bytes.len() < 919 {
+    if bytes.len() < 1079 {
         return 8;
     }
     if !tags_proper(bytes) {
         return 9;
     }
     if !frames_proper(bytes) {
+        return 9;
+    }
+    if !recent_proper(bytes) {
         return 9;
     }
     0
@@ -37,7 +42,7 @@ pub fn form_number(bytes: &[u8]) -> u8
 pub fn record_or_empty(bytes: &[u8]) -> Machine
     ensures { λ r. ⌜ r ≡ recordOr (now (bytes .entry)) ⌝ }
 {
-    if bytes.len() < 919 {
+    if bytes.len() < 1079 {
         let none = empty_layout();
         return fresh(none);
     }
@@ -45,11 +50,13 @@ pub fn record_or_empty(bytes: &[u8]) -> Machine
     let registers = registers(bytes);
     let pointers = pointers(bytes);
     let frames = frames(bytes);
+    let recent = recent(bytes);
     Machine {
         layout,
         registers,
         pointers,
         frames,
+        recent,
         depth: bytes[262],
     }
 }

@@ -2,19 +2,20 @@
 ghost use mathlib.Core.Path.{_≡_};
 ghost use Prim.Native.Nat.{_+_, _≤_};
 ghost use lib.ListN.{length};
-ghost use Rattle.snapshot_format.specs.RecordForm.{pointerForm, capabilityForm, startForm, layoutForm, registersForm};
+ghost use Rattle.snapshot_format.specs.RecordForm.{pointerForm, capabilityForm, startForm, layoutForm, registersForm, registerForm};
 use crate::numbers::fill_bytes;
 use crate::numbers::fill_pairs;
 use crate::numbers::pair;
 use crate::numbers::quad;
 use state::record::Capability;
 use state::record::Layout;
+use state::record::Register;
 use state::record::Registers;
 use state::record::Start;
 use words::pointer::Pointer;
 
 pub fn pointer(bytes: &[u8], i: usize) -> Pointer
-    requires { ⌜ (i + 4 ≤ 919) × (919 ≤ length (now bytes)) ⌝ }
+    requires { ⌜ (i + 4 ≤ 1079) × (1079 ≤ length (now bytes)) ⌝ }
     ensures { λ r. ⌜ r ≡ pointerForm .value (now (bytes .entry)) i ⌝ }
 {
     let at = i + 2;
@@ -26,7 +27,7 @@ pub fn pointer(bytes: &[u8], i: usize) -> Pointer
 }
 
 pub fn capability(bytes: &[u8], i: usize) -> Capability
-    requires { ⌜ (i + 8 ≤ 919) × (919 ≤ length (now bytes)) ⌝ }
+    requires { ⌜ (i + 8 ≤ 1079) × (1079 ≤ length (now bytes)) ⌝ }
     ensures { λ r. ⌜ r ≡ capabilityForm .value (now (bytes .entry)) i ⌝ }
 {
     let second = i + 2;
@@ -43,8 +44,20 @@ pub fn capability(bytes: &[u8], i: usize) -> Capability
     }
 }
 
+pub fn register(bytes: &[u8], i: usize) -> Register
+    requires { ⌜ (i + 10 ≤ 1079) × (1079 ≤ length (now bytes)) ⌝ }
+    ensures { λ r. ⌜ r ≡ registerForm .value (now (bytes .entry)) i ⌝ }
+{
+    let at = i + 8;
+    Register {
+        capability: capability(bytes, i),
+        frame: bytes[at],
+        recency: bytes[at + 1],
+    }
+}
+
 fn start(bytes: &[u8]) -> Start
-    requires { ⌜ 919 ≤ length (now bytes) ⌝ }
+    requires { ⌜ 1079 ≤ length (now bytes) ⌝ }
     ensures { λ r. ⌜ r ≡ startForm .value (now (bytes .entry)) 64 ⌝ }
 {
     Start {
@@ -55,7 +68,7 @@ fn start(bytes: &[u8]) -> Start
 }
 
 pub fn layout(bytes: &[u8]) -> Layout
-    requires { ⌜ 919 ≤ length (now bytes) ⌝ }
+    requires { ⌜ 1079 ≤ length (now bytes) ⌝ }
     ensures { λ r. ⌜ r ≡ layoutForm .value (now (bytes .entry)) 0 ⌝ }
 {
     let mut lengths = [0u16; 16];
@@ -82,7 +95,7 @@ pub fn layout(bytes: &[u8]) -> Layout
 }
 
 pub fn registers(bytes: &[u8]) -> Registers
-    requires { ⌜ 919 ≤ length (now bytes) ⌝ }
+    requires { ⌜ 1079 ≤ length (now bytes) ⌝ }
     ensures { λ r. ⌜ r ≡ registersForm .value (now (bytes .entry)) 222 ⌝ }
 {
     Registers {

@@ -4,11 +4,11 @@ ghost use Prim.Native.Nat.{_+_, _≤_};
 ghost use lib.ListN.{length};
 ghost use Rattle.state.specs.Record.{noCapability, freeFrame};
 ghost use Rattle.snapshot_format.specs.Format.{zeros, rowsOf, counted};
-ghost use Rattle.snapshot_format.specs.RecordForm.{pointerForm, capabilityForm, frameForm};
+ghost use Rattle.snapshot_format.specs.RecordForm.{pointerForm, capabilityForm, frameForm, registerForm};
 
 // Whether n bytes from a place on are zero. There is no early end, so that the compiler takes many bytes at a time.
 fn all_zero(bytes: &[u8], from: usize, n: usize) -> bool
-    requires { ⌜ (from + n ≤ 919) × (919 ≤ length (now bytes)) ⌝ }
+    requires { ⌜ (from + n ≤ 1079) × (1079 ≤ length (now bytes)) ⌝ }
     ensures { λ r. ⌜ r ≡ zeros (now (bytes .entry)) from n ⌝ }
 {
     let mut highest = 0u8;
@@ -24,7 +24,7 @@ fn all_zero(bytes: &[u8], from: usize, n: usize) -> bool
 }
 
 fn capability_proper(bytes: &[u8], i: usize) -> bool
-    requires { ⌜ (i + 8 ≤ 919) × (919 ≤ length (now bytes)) ⌝ }
+    requires { ⌜ (i + 8 ≤ 1079) × (1079 ≤ length (now bytes)) ⌝ }
     ensures { λ r. ⌜ r ≡ capabilityForm .proper (now (bytes .entry)) i ⌝ }
 {
     let read = i + 2 + 2 + 1 + 1;
@@ -35,7 +35,7 @@ fn capability_proper(bytes: &[u8], i: usize) -> bool
 }
 
 fn capabilities_proper(bytes: &[u8], i: usize) -> bool
-    requires { ⌜ (i + 82 ≤ 919) × (919 ≤ length (now bytes)) ⌝ }
+    requires { ⌜ (i + 82 ≤ 1079) × (1079 ≤ length (now bytes)) ⌝ }
     ensures { λ r. ⌜ r ≡ counted 9 noCapability capabilityForm .proper (now (bytes .entry)) i ⌝ }
 {
     let used = bytes[i] as usize;
@@ -54,7 +54,7 @@ fn capabilities_proper(bytes: &[u8], i: usize) -> bool
 }
 
 fn pointer_proper(bytes: &[u8], i: usize) -> bool
-    requires { ⌜ (i + 4 ≤ 919) × (919 ≤ length (now bytes)) ⌝ }
+    requires { ⌜ (i + 4 ≤ 1079) × (1079 ≤ length (now bytes)) ⌝ }
     ensures { λ r. ⌜ r ≡ pointerForm .proper (now (bytes .entry)) i ⌝ }
 {
     let tag = i + 2 + 1;
@@ -62,7 +62,7 @@ fn pointer_proper(bytes: &[u8], i: usize) -> bool
 }
 
 fn frame_proper(bytes: &[u8], i: usize) -> bool
-    requires { ⌜ (i + 82 ≤ 919) × (919 ≤ length (now bytes)) ⌝ }
+    requires { ⌜ (i + 82 ≤ 1079) × (1079 ≤ length (now bytes)) ⌝ }
     ensures { λ r. ⌜ r ≡ frameForm .proper (now (bytes .entry)) i ⌝ }
 {
     if !capabilities_proper(bytes, i) {
@@ -76,7 +76,7 @@ fn frame_proper(bytes: &[u8], i: usize) -> bool
 }
 
 pub fn frames_proper(bytes: &[u8]) -> bool
-    requires { ⌜ 919 ≤ length (now bytes) ⌝ }
+    requires { ⌜ 1079 ≤ length (now bytes) ⌝ }
     ensures { λ r. ⌜ r ≡ counted 8 freeFrame frameForm .proper (now (bytes .entry)) 262 ⌝ }
 {
     let used = bytes[262] as usize;
@@ -94,12 +94,26 @@ pub fn frames_proper(bytes: &[u8]) -> bool
 }
 
 pub fn tags_proper(bytes: &[u8]) -> bool
-    requires { ⌜ 919 ≤ length (now bytes) ⌝ }
+    requires { ⌜ 1079 ≤ length (now bytes) ⌝ }
     ensures { λ r. ⌜ r ≡ rowsOf 8 pointerForm .proper (now (bytes .entry)) 230 ⌝ }
 {
     let mut k = 0usize;
     while k < 8 {
         if !pointer_proper(bytes, 230 + k * 4) {
+            return false;
+        }
+        k += 1;
+    }
+    true
+}
+
+pub fn recent_proper(bytes: &[u8]) -> bool
+    requires { ⌜ 1079 ≤ length (now bytes) ⌝ }
+    ensures { λ r. ⌜ r ≡ rowsOf 16 registerForm .proper (now (bytes .entry)) 919 ⌝ }
+{
+    let mut k = 0usize;
+    while k < 16 {
+        if !capability_proper(bytes, 919 + k * 10) {
             return false;
         }
         k += 1;

@@ -14,10 +14,10 @@ use denote.Struct.Declared.{row}
 use Rattle.state.specs.declared.record.Frame.{Frame}
 use Rattle.state.specs.declared.record.Machine.{Machine}
 use Rattle.state.proofs.record.Frame.{the-type, the-field}
-use Rattle.state.specs.Record.{noCapability, noPointer, noFrame, freeFrame}
+use Rattle.state.specs.Record.{noCapability, noPointer, noFrame, freeFrame, noRegister}
 use Rattle.snapshot_format.specs.Format.{byteForm, pairForm, counted}
 use Rattle.image_format.specs.Bytes.{joined}
-use Rattle.snapshot_format.specs.RecordForm.{pointerForm, capabilityForm, frameForm, layoutForm, registersForm, recordForm, recordBytes}
+use Rattle.snapshot_format.specs.RecordForm.{pointerForm, capabilityForm, frameForm, layoutForm, registersForm, registerForm, recordForm, recordBytes}
 use Rattle.snapshot_format.specs.Statements.{FullArrays}
 use Rattle.snapshot_writer.proofs.Laws.{Sized, follows, rows-size, rows-follow, counted-size}
 
@@ -59,22 +59,33 @@ module _ (m : Machine) (a : FullArrays m) where
   frames-size : length (counted 8 freeFrame frameForm .bytes (m .depth, m .frames)) ≡ 657
   frames-size = counted-size 8 freeFrame frameForm noFrame (m .frames) frames-sized (a .frames) (m .depth)
 
-  abbrev rest : List ℕ
-  rest = joined (pointerForm .bytes) (m .pointers) ++ counted 8 freeFrame frameForm .bytes (m .depth, m .frames)
+  -- what stands after the pointers, and after the registers
+  abbrev last : List ℕ
+  last = counted 8 freeFrame frameForm .bytes (m .depth, m .frames) ++ joined (registerForm .bytes) (m .recent)
 
-  record-size : length (recordForm .bytes m) ≡ 919
+  abbrev rest : List ℕ
+  rest = joined (pointerForm .bytes) (m .pointers) ++ last
+
+  last-size : length last ≡ 817
+  last-size =
+      length-append (counted 8 freeFrame frameForm .bytes (m .depth, m .frames)) (joined (registerForm .bytes) (m .recent)) ∙
+      (λ j. frames-size j + rows-size registerForm noRegister (m .recent) 16 (λ k h. refl) (a .recent) j)
+
+  record-size : length (recordForm .bytes m) ≡ 1079
   record-size =
       length-append (layoutForm .bytes (m .layout)) (registersForm .bytes (m .registers) ++ rest) ∙
-      (let p = length-append (joined (pointerForm .bytes) (m .pointers)) (counted 8 freeFrame frameForm .bytes (m .depth, m .frames)) in
-      let e : length (layoutForm .bytes (m .layout)) + length (registersForm .bytes (m .registers) ++ rest) ≡ 919 = omega (arith, layout-size, p, rows-size pointerForm noPointer (m .pointers) 8 (λ k h. refl) (a .pointers), frames-size) in e)
+      (let p = length-append (joined (pointerForm .bytes) (m .pointers)) last in
+      let e : length (layoutForm .bytes (m .layout)) + length (registersForm .bytes (m .registers) ++ rest) ≡ 1079 = omega (arith, layout-size, p, rows-size pointerForm noPointer (m .pointers) 8 (λ k h. refl) (a .pointers), last-size) in e)
 
-  pub record-put : (o : List ℕ) {o1 o2 o3 o4 : List ℕ} → 919 ≤ length o → o1 ≡ sets o 0 (layoutForm .bytes (m .layout)) → o2 ≡ sets o1 222 (registersForm .bytes (m .registers))
-      → o3 ≡ sets o2 230 (joined (pointerForm .bytes) (m .pointers)) → o4 ≡ sets o3 262 (counted 8 freeFrame frameForm .bytes (m .depth, m .frames)) → o4 ≡ recordBytes m ++ drop 919 o
+  pub record-put : (o : List ℕ) {o1 o2 o3 o4 o5 : List ℕ} → 1079 ≤ length o → o1 ≡ sets o 0 (layoutForm .bytes (m .layout)) → o2 ≡ sets o1 222 (registersForm .bytes (m .registers))
+      → o3 ≡ sets o2 230 (joined (pointerForm .bytes) (m .pointers)) → o4 ≡ sets o3 262 (counted 8 freeFrame frameForm .bytes (m .depth, m .frames))
+      → o5 ≡ sets o4 919 (joined (registerForm .bytes) (m .recent)) → o5 ≡ recordBytes m ++ drop 1079 o
   unfolding recordBytes
-  record-put o {o1} {o2} {o3} {o4} h e1 e2 e3 e4 =
+  record-put o {o1} {o2} {o3} {o4} {o5} h e1 e2 e3 e4 e5 =
       let frames = counted 8 freeFrame frameForm .bytes (m .depth, m .frames) in
-      let all : o4 ≡ sets o 0 (recordForm .bytes m) =
+      let all : o5 ≡ sets o 0 (recordForm .bytes m) =
       follows o 0 (layoutForm .bytes (m .layout)) (registersForm .bytes (m .registers) ++ rest) 222 e1 (sym (ap (λ (k : ℕ). 0 + k) layout-size))
       (follows o1 222 (registersForm .bytes (m .registers)) rest 230 e2 refl
-      (rows-follow pointerForm noPointer o2 230 (m .pointers) frames 8 (λ k b. refl) (a .pointers) e3 e4)) in
+      (rows-follow pointerForm noPointer o2 230 (m .pointers) last 8 (λ k b. refl) (a .pointers) e3
+      (follows o3 262 frames (joined (registerForm .bytes) (m .recent)) 919 e4 (sym (ap (λ (k : ℕ). 262 + k) frames-size)) e5))) in
       all ∙ sets-eq (recordForm .bytes m) o 0 (omega (arith, record-size)) ∙ ap (λ (k : ℕ). recordForm .bytes m ++ drop (0 + k) o) record-size

@@ -13,7 +13,7 @@ pub fn flag(on: bool) -> u8
 }
 
 pub fn put_pair(output: &mut [u8], i: usize, n: u16)
-    requires { ⌜ (i + 2 ≤ 919) × (919 ≤ length (now output)) ⌝ }
+    requires { ⌜ (i + 2 ≤ 1079) × (1079 ≤ length (now output)) ⌝ }
     ensures { λ r. ⌜ now (output .exit) ≡ sets (now (output .entry)) i (pairForm .bytes n) ⌝ }
 {
     output[i] = (n % 256) as u8;
@@ -21,7 +21,7 @@ pub fn put_pair(output: &mut [u8], i: usize, n: u16)
 }
 
 pub fn put_quad(output: &mut [u8], i: usize, n: u32)
-    requires { ⌜ (i + 4 ≤ 919) × (919 ≤ length (now output)) ⌝ }
+    requires { ⌜ (i + 4 ≤ 1079) × (1079 ≤ length (now output)) ⌝ }
     ensures { λ r. ⌜ now (output .exit) ≡ sets (now (output .entry)) i (quadForm .bytes n) ⌝ }
 {
     put_pair(output, i, (n % 65536) as u16);
@@ -29,7 +29,7 @@ pub fn put_quad(output: &mut [u8], i: usize, n: u32)
 }
 
 pub fn put_bytes(output: &mut [u8], from: usize, numbers: &[u8])
-    requires { ⌜ (from + length (now numbers) ≤ 919) × (919 ≤ length (now output)) ⌝ }
+    requires { ⌜ (from + length (now numbers) ≤ 1079) × (1079 ≤ length (now output)) ⌝ }
     ensures { λ r. ⌜ now (output .exit) ≡ sets (now (output .entry)) from (rowsOf (length (now (numbers .entry))) byteForm .bytes (now (numbers .entry))) ⌝ }
 {
     let mut k = 0usize;
@@ -40,7 +40,7 @@ pub fn put_bytes(output: &mut [u8], from: usize, numbers: &[u8])
 }
 
 pub fn put_pairs(output: &mut [u8], from: usize, numbers: &[u16])
-    requires { ⌜ (from + length (now numbers) * 2 ≤ 919) × (919 ≤ length (now output)) ⌝ }
+    requires { ⌜ (from + length (now numbers) * 2 ≤ 1079) × (1079 ≤ length (now output)) ⌝ }
     ensures { λ r. ⌜ now (output .exit) ≡ sets (now (output .entry)) from (rowsOf (length (now (numbers .entry))) pairForm .bytes (now (numbers .entry))) ⌝ }
 {
     let mut k = 0usize;
@@ -51,7 +51,7 @@ pub fn put_pairs(output: &mut [u8], from: usize, numbers: &[u16])
 }
 
 pub fn put_zeros(output: &mut [u8], from: usize, n: usize)
-    requires { ⌜ (from + n ≤ 919) × (919 ≤ length (now output)) ⌝ }
+    requires { ⌜ (from + n ≤ 1079) × (1079 ≤ length (now output)) ⌝ }
     ensures { λ r. ⌜ now (output .exit) ≡ sets (now (output .entry)) from (replicate n 0) ⌝ }
 {
     let mut k = 0usize;

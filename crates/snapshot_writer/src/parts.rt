@@ -3,7 +3,7 @@ ghost use mathlib.Core.Path.{_≡_};
 ghost use Prim.Native.Nat.{_+_, _≤_};
 ghost use lib.ListN.{length};
 ghost use lib.Seq.{sets};
-ghost use Rattle.snapshot_format.specs.RecordForm.{pointerForm, capabilityForm, startForm, layoutForm, registersForm};
+ghost use Rattle.snapshot_format.specs.RecordForm.{pointerForm, capabilityForm, startForm, layoutForm, registersForm, registerForm};
 use crate::numbers::flag;
 use crate::numbers::put_bytes;
 use crate::numbers::put_pair;
@@ -11,12 +11,13 @@ use crate::numbers::put_pairs;
 use crate::numbers::put_quad;
 use state::record::Capability;
 use state::record::Layout;
+use state::record::Register;
 use state::record::Registers;
 use state::record::Start;
 use words::pointer::Pointer;
 
 pub fn put_pointer(output: &mut [u8], i: usize, p: Pointer)
-    requires { ⌜ (i + 4 ≤ 919) × (919 ≤ length (now output)) ⌝ }
+    requires { ⌜ (i + 4 ≤ 1079) × (1079 ≤ length (now output)) ⌝ }
     ensures { λ r. ⌜ now (output .exit) ≡ sets (now (output .entry)) i (pointerForm .bytes p) ⌝ }
 {
     put_pair(output, i, p.word);
@@ -25,7 +26,7 @@ pub fn put_pointer(output: &mut [u8], i: usize, p: Pointer)
 }
 
 pub fn put_capability(output: &mut [u8], i: usize, c: Capability)
-    requires { ⌜ (i + 8 ≤ 919) × (919 ≤ length (now output)) ⌝ }
+    requires { ⌜ (i + 8 ≤ 1079) × (1079 ≤ length (now output)) ⌝ }
     ensures { λ r. ⌜ now (output .exit) ≡ sets (now (output .entry)) i (capabilityForm .bytes c) ⌝ }
 {
     put_pair(output, i, c.word);
@@ -36,8 +37,17 @@ pub fn put_capability(output: &mut [u8], i: usize, c: Capability)
     output[i + 7] = flag(c.write);
 }
 
+pub fn put_register(output: &mut [u8], i: usize, r: Register)
+    requires { ⌜ (i + 10 ≤ 1079) × (1079 ≤ length (now output)) ⌝ }
+    ensures { λ u. ⌜ now (output .exit) ≡ sets (now (output .entry)) i (registerForm .bytes r) ⌝ }
+{
+    put_capability(output, i, r.capability);
+    output[i + 8] = r.frame;
+    output[i + 9] = r.recency;
+}
+
 fn put_start(output: &mut [u8], s: Start)
-    requires { ⌜ 919 ≤ length (now output) ⌝ }
+    requires { ⌜ 1079 ≤ length (now output) ⌝ }
     ensures { λ r. ⌜ now (output .exit) ≡ sets (now (output .entry)) 64 (startForm .bytes s) ⌝ }
 {
     put_pair(output, 64, s.word);
@@ -46,7 +56,7 @@ fn put_start(output: &mut [u8], s: Start)
 }
 
 pub fn put_layout(output: &mut [u8], l: Layout)
-    requires { ⌜ 919 ≤ length (now output) ⌝ }
+    requires { ⌜ 1079 ≤ length (now output) ⌝ }
     ensures { λ r. ⌜ now (output .exit) ≡ sets (now (output .entry)) 0 (layoutForm .bytes l) ⌝ }
 {
     let lengths = l.lengths;
@@ -65,7 +75,7 @@ pub fn put_layout(output: &mut [u8], l: Layout)
 }
 
 pub fn put_registers(output: &mut [u8], r: Registers)
-    requires { ⌜ 919 ≤ length (now output) ⌝ }
+    requires { ⌜ 1079 ≤ length (now output) ⌝ }
     ensures { λ u. ⌜ now (output .exit) ≡ sets (now (output .entry)) 222 (registersForm .bytes r) ⌝ }
 {
     put_quad(output, 222, r.a);

@@ -16,6 +16,7 @@ use Rattle.state.specs.declared.record.Registers.{Registers}
 use Rattle.state.specs.declared.record.Machine.{Machine}
 use Rattle.state.specs.Bases.{wordsIn}
 use Rattle.state.specs.Record.{noPointer, noCapability, noFrame}
+use Rattle.recent.specs.SoundRegisters.{recentTest}
 use Rattle.layout_soundness.specs.SoundLayout.{allFrom, between, layoutTest, rangesTest, segmentTest, stackTest, rightsTest, startTest}
 use Rattle.soundness.specs.Sound.{registersTest, pointerTest, pointersTest, capabilityTest, emptyCapability, emptyFrame, frameTest, framesTest, soundTest}
 use Rattle.layout_soundness.proofs.Tests.{both, join, bounds, inside, then-part, else-part, either-part}
@@ -263,6 +264,7 @@ pub record Sound (m : Machine) : Type 0 where
   pub registers : RegistersSound (m .layout .domains) (m .registers)
   pub pointers : PointersSound (m .pointers)
   pub frames : FramesSound (m .layout .domains) (m .depth) (m .frames)
+  pub recent : recentTest (m .depth) (m .frames) (m .recent) ≡ true
 
 pub sound-facts : (m : Machine) → soundTest m ≡ true → Sound m
 unfolding soundTest layoutTest
@@ -271,8 +273,18 @@ sound-facts m e =
     let l = both (rangesTest (m .layout)) _ (t .0) in
     let u = both (registersTest (m .layout .domains) (m .registers)) _ (t .1) in
     let v = both (pointersTest (m .pointers)) _ (u .1) in
-    record { layout = layout-facts _ (l .0); gates = gates-facts _ _ _ (l .1); registers = registers-facts _ _ (u .0); pointers = pointers-facts _ (v .0); frames = frames-facts _ _ _ (v .1) }
+    let w = both (framesTest (m .layout .domains) (m .depth) (m .frames)) _ (v .1) in
+    record {
+      layout = layout-facts _ (l .0);
+      gates = gates-facts _ _ _ (l .1);
+      registers = registers-facts _ _ (u .0);
+      pointers = pointers-facts _ (v .0);
+      frames = frames-facts _ _ _ (w .0);
+      recent = w .1;
+    }
 
 pub facts-sound : (m : Machine) → Sound m → soundTest m ≡ true
 unfolding soundTest layoutTest
-facts-sound m s = join (join (s .layout .tested) (facts-gates _ _ _ (s .gates))) (join (facts-registers _ _ (s .registers)) (join (facts-pointers _ (s .pointers)) (facts-frames _ _ _ (s .frames))))
+facts-sound m s =
+    join (join (s .layout .tested) (facts-gates _ _ _ (s .gates)))
+    (join (facts-registers _ _ (s .registers)) (join (facts-pointers _ (s .pointers)) (join (facts-frames _ _ _ (s .frames)) (s .recent))))

@@ -9,6 +9,7 @@ use Rattle.state.specs.Record.{noPointer, freeFrame}
 use Rattle.layout_soundness.specs.SoundLayout.{allFrom, rangesTest, layoutTest}
 use Rattle.soundness.specs.Sound.{pointerTest, pointersTest, emptyCapability, emptyPointer, emptyFrame, framesTest, soundTest}
 use Rattle.fresh.specs.Fresh.{freshOf}
+use Rattle.recent.proofs.Kept.{fresh-recent}
 use Rattle.layout_soundness.proofs.Tests.{both, join}
 use Rattle.soundness.proofs.Facts.{layout-facts, facts-registers}
 use Rattle.soundness.specs.Statements.{FreshSound}
@@ -31,4 +32,4 @@ fresh-sound l e =
     let f = layout-facts l (both (rangesTest l) _ e .0) in
     join e
     (join (facts-registers _ _ (record { domain = f .start-domain; segment = omega arith; word = omega arith }))
-    (join (stack-pointer _ (omega (arith, f .stacks (l .start .domain) (omega arith)))) (no-frames (l .domains))))
+    (join (stack-pointer _ (omega (arith, f .stacks (l .start .domain) (omega arith)))) (join (no-frames (l .domains)) (fresh-recent (replicate 8 freeFrame)))))

@@ -1,4 +1,4 @@
--- When a machine record is sound (well-formed): every number is in its range, whatever is named exists, no gate is dead, and unused rows are zero.
+-- When a machine record is sound (well-formed): every number is in its range, whatever is named exists, no gate is dead, unused rows are zero, and the registers of recent capabilities fit the frames.
 use Prim.Native.Nat.{ℕ, _+_}
 use mathlib.Core.Bool.{Bool, not, _&&_, _||_}
 use mathlib.Core.List.{List}
@@ -11,6 +11,7 @@ use Rattle.state.specs.declared.record.Frame.{Frame}
 use Rattle.state.specs.declared.record.Registers.{Registers}
 use Rattle.state.specs.declared.record.Machine.{Machine}
 use Rattle.state.specs.Record.{noPointer, noCapability, noFrame}
+use Rattle.recent.specs.SoundRegisters.{recentTest}
 use Rattle.layout_soundness.specs.SoundLayout.{allFrom, between, layoutTest}
 
 -- the executing domain exists; the location's segment need not, and its word is 0-4,096
@@ -55,4 +56,4 @@ framesTest domains depth fs =
 unfoldable pub soundTest : Machine → Bool
 soundTest m =
     layoutTest (m .layout) && (registersTest (m .layout .domains) (m .registers) && (pointersTest (m .pointers) &&
-    framesTest (m .layout .domains) (m .depth) (m .frames)))
+    (framesTest (m .layout .domains) (m .depth) (m .frames) && recentTest (m .depth) (m .frames) (m .recent))))

@@ -27,5 +27,9 @@ pub fn sound(m: Machine) -> bool
         return false;
     }
     let frames = m.frames;
-    frames_sound(layout.domains, m.depth, frames)
+    if !frames_sound(layout.domains, m.depth, frames) {
+        return false;
+    }
+    let recent = m.recent;
+    recent::registers::registers_sound(m.depth, frames, recent)
 }

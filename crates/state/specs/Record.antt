@@ -8,8 +8,9 @@ use Rattle.words.specs.Answer.{if_then_else_}
 use Rattle.words.specs.declared.pointer.Pointer.{Pointer}
 use Rattle.state.specs.declared.record.Capability.{Capability}
 use Rattle.state.specs.declared.record.Frame.{Frame}
+use Rattle.state.specs.declared.record.Register.{Register}
 
--- what lies past the end of an array of pointers, of capabilities, of frames
+-- what lies past the end of an array of pointers, of capabilities, of frames, of registers
 abbrev pub noPointer : Pointer
 noPointer = record { word = 0; segment = 0; tag = false }
 
@@ -18,6 +19,9 @@ noCapability = record { word = 0; length = 0; segment = 0; source = 0; read = fa
 
 abbrev pub noFrame : Frame
 noFrame = record { capabilities = []; s = noPointer; back = noPointer; count = 0; domain = 0 }
+
+abbrev pub noRegister : Register
+noRegister = record { capability = noCapability; frame = 0; recency = 0 }
 
 -- the number that an array of sixteen has for a segment: its length, gate count or gate domain; 0 past the rows
 abbrev pub ofSegment : List ℕ → ℕ → ℕ

@@ -49,11 +49,19 @@ pub struct Registers {
     pub domain: u8,
 }
 
-// The frames in use are the first depth ones; the newest is the live frame. 920 bytes.
+// A capability that was used lately, its frame's number (that many frames are in use while it is the live one; 0 where the register is empty), and how lately: 15 is last. 10 bytes.
+pub struct Register {
+    pub capability: Capability,
+    pub frame: u8,
+    pub recency: u8,
+}
+
+// The frames in use are the first depth ones; the newest is the live frame. 1,080 bytes.
 pub struct Machine {
     pub layout: Layout,
     pub registers: Registers,
     pub pointers: [Pointer; 8],
     pub frames: [Frame; 8],
+    pub recent: [Register; 16],
     pub depth: u8,
 }

@@ -13,10 +13,13 @@ array-set-from-pointers c = search needs
 free-frame-requires : tie.Need-free-frame-requires
 free-frame-requires c κs = search needs
 
+fresh-registers-requires : tie.Need-fresh-registers-requires
+fresh-registers-requires c κs = search needs
+
 returns : tie.Need-returns
 unfolding freshOf
-returns c = rw (c .before .stack-of .ensures, c .free-frame .ensures)
+returns c = rw (c .before .before .stack-of .ensures, c .before .free-frame .ensures, c .fresh-registers .ensures)
 
 pub fresh-spec : {M : Type 1} → statement M
 fresh-spec =
-    tie.close (tie.spec stack-of-requires array-set-from-pointers free-frame-requires returns)
+    tie.close (tie.spec stack-of-requires array-set-from-pointers free-frame-requires fresh-registers-requires returns)

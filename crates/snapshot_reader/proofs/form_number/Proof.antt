@@ -18,5 +18,7 @@ form-number-spec =
     (λ c κs. search needs)  -- tags-proper-requires
     (λ c. let s = c .before .before in formed-as (s .before .before .args .bytes .now) false (s .if1 .left) (stop _ (answered-false (c .before .tags-proper .ensures) (c .if2 .taken))))  -- returns-2
     (λ c κs. search needs)  -- frames-proper-requires
-    (λ c. let t = c .before .before in let s = t .before .before in formed-as (s .before .before .args .bytes .now) false (s .if1 .left) (pass (answered-true (t .before .tags-proper .ensures) (t .if2 .left)) (sym (answered-false (c .before .frames-proper .ensures) (c .if3 .taken)))))  -- returns-3
-    (λ c. let t = c .before .before in let s = t .before .before in formed-as (s .before .before .args .bytes .now) true (s .if1 .left) (pass (answered-true (t .before .tags-proper .ensures) (t .if2 .left)) (sym (answered-true (c .before .frames-proper .ensures) (c .if3 .left))))))  -- returns-4
+    (λ c. let t = c .before .before in let s = t .before .before in formed-as (s .before .before .args .bytes .now) false (s .if1 .left) (pass (answered-true (t .before .tags-proper .ensures) (t .if2 .left)) (stop _ (answered-false (c .before .frames-proper .ensures) (c .if3 .taken)))))  -- returns-3
+    (λ c κs. search needs)  -- recent-proper-requires
+    (λ c. let f = c .before .before in let t = f .before .before in let s = t .before .before in formed-as (s .before .before .args .bytes .now) false (s .if1 .left) (pass (answered-true (t .before .tags-proper .ensures) (t .if2 .left)) (pass (answered-true (f .before .frames-proper .ensures) (f .if3 .left)) (sym (answered-false (c .before .recent-proper .ensures) (c .if4 .taken))))))  -- returns-4
+    (λ c. let f = c .before .before in let t = f .before .before in let s = t .before .before in formed-as (s .before .before .args .bytes .now) true (s .if1 .left) (pass (answered-true (t .before .tags-proper .ensures) (t .if2 .left)) (pass (answered-true (f .before .frames-proper .ensures) (f .if3 .left)) (sym (answered-true (c .before .recent-proper .ensures) (c .if4 .left)))))))  -- returns-5

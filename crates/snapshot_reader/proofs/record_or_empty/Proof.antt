@@ -18,5 +18,6 @@ record-or-empty-spec =
     (λ c κs. search needs)  -- registers-requires
     (λ c κs. search needs)  -- pointers-requires
     (λ c κs. search needs)  -- frames-requires
-    (λ c. search needs)  -- shared-slice-read-t10
-    (λ c. let f = c .before in let p = f .before in let r = p .before in let l = r .before in simp (le-leb _ _ (l .before .if1 .left), l .layout .ensures, r .registers .ensures, p .pointers .ensures, f .frames .ensures)))  -- returns-2
+    (λ c κs. search needs)  -- recent-requires
+    (λ c. search needs)  -- shared-slice-read-t11
+    (λ c. let n = c .before in let f = n .before in let p = f .before in let r = p .before in let l = r .before in simp (le-leb _ _ (l .before .if1 .left), l .layout .ensures, r .registers .ensures, p .pointers .ensures, f .frames .ensures, n .recent .ensures)))  -- returns-2

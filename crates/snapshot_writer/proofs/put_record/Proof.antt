@@ -25,6 +25,7 @@ arrays s =
       pointers = simp length-map at (g .1 .1 .0 .1 .0 .1);
       frames = frames;
       capabilities = λ i h. field-rows (s .args .m .frames) (f .0) (f .1 .1) i (omega arith);
+      recent = simp length-map at (g .1 .1 .1 .1 .0 .1 .0 .1);
     }
 
 short : tie.Need-returns
@@ -34,14 +35,15 @@ short c = simp (lt-ltb _ _ (c .if1 .taken))
 long : tie.Need-returns-2
 unfolding withRecord
 long c =
-    let p4 = c .before .before in
+    let p5 = c .before .before in
+    let p4 = p5 .before .before .before .before .before in
     let p3 = p4 .before .before .before .before .before in
     let p2 = p3 .before .before .before .before .before in
     let p1 = p2 .before .before .before .before in
     let e = p1 .before .before in
     let s = e .before .before in
     simp (le-ltb _ _ (e .if1 .left))
-    (record-put (s .args .m) (arrays s) (s .args .output .now) (e .if1 .left) (p1 .put-layout .ensures) (p2 .put-registers .ensures) (p3 .put-pointers .ensures) (p4 .put-frames .ensures))
+    (record-put (s .args .m) (arrays s) (s .args .output .now) (e .if1 .left) (p1 .put-layout .ensures) (p2 .put-registers .ensures) (p3 .put-pointers .ensures) (p4 .put-frames .ensures) (p5 .put-recent .ensures))
 
 pub put-record-spec : {M : Type 1} → statement M
 put-record-spec =
@@ -52,5 +54,6 @@ put-record-spec =
     (λ c κs. search needs)  -- put-registers-requires
     (λ c κs. search needs)  -- put-pointers-requires
     (λ c κs. search needs)  -- put-frames-requires
+    (λ c κs. search needs)  -- put-recent-requires
     (λ c. search needs)  -- same-length
     (long))  -- returns-2

@@ -35,10 +35,22 @@ frames-sound-requires c κs = search needs
 returns-4 : tie.Need-returns-4
 unfolding soundTest
 returns-4 c =
-    let e3 = c .before .before in
+    let e3 = c .before .before .before in
     let e2 = e3 .before .before .before in
     let e1 = e2 .before .before in
-    pass (answered-true (e1 .before .layout-sound .ensures) (e1 .if1 .left)) (pass (answered-true (e2 .before .registers-sound .ensures) (e2 .if2 .left)) (pass (answered-true (e3 .before .pointers-sound .ensures) (e3 .if3 .left)) (c .frames-sound .ensures)))
+    pass (answered-true (e1 .before .layout-sound .ensures) (e1 .if1 .left)) (pass (answered-true (e2 .before .registers-sound .ensures) (e2 .if2 .left)) (pass (answered-true (e3 .before .pointers-sound .ensures) (e3 .if3 .left)) (stop _ (answered-false (c .before .frames-sound .ensures) (c .if4 .taken)))))
+
+registers-sound-requires-2 : tie.Need-registers-sound-requires-2
+registers-sound-requires-2 c κs = search needs
+
+returns-5 : tie.Need-returns-5
+unfolding soundTest
+returns-5 c =
+    let e4 = c .before .before in
+    let e3 = e4 .before .before .before in
+    let e2 = e3 .before .before .before in
+    let e1 = e2 .before .before in
+    pass (answered-true (e1 .before .layout-sound .ensures) (e1 .if1 .left)) (pass (answered-true (e2 .before .registers-sound .ensures) (e2 .if2 .left)) (pass (answered-true (e3 .before .pointers-sound .ensures) (e3 .if3 .left)) (pass (answered-true (e4 .before .frames-sound .ensures) (e4 .if4 .left)) (c .registers-sound2 .ensures))))
 
 pub sound-spec : {M : Type 1} → statement M
 sound-spec =
@@ -51,4 +63,6 @@ sound-spec =
     pointers-sound-requires
     returns-3
     frames-sound-requires
-    returns-4)
+    returns-4
+    registers-sound-requires-2
+    returns-5)

@@ -1,0 +1,15 @@
+pub mod Logic
+pub mod Walk
+pub mod Numbers
+pub mod Most
+pub mod Ranks
+pub mod Lengths
+pub mod Same
+pub mod Rows
+pub mod Clear
+pub mod Agrees
+pub mod Contents
+pub mod ContentsKept
+pub mod Source
+pub mod Kept
+pub mod Examples

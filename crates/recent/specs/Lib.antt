@@ -1,0 +1,4 @@
+pub mod Entering
+pub mod Registers
+pub mod Found
+pub mod SoundRegisters

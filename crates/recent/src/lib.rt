@@ -1,0 +1,3 @@
+// The registers of recently used capabilities: which may be entered, and when they are sound.
+pub mod entering;
+pub mod registers;
