@@ -2,6 +2,7 @@
 ghost use mathlib.Core.Path.{_≡_};
 ghost use mathlib.Core.Bool.{_||_};
 ghost use Rattle.words.specs.PointerWord.{pointerAnswer};
+ghost use Rattle.lent_registers.specs.Columns.{registersOf};
 ghost use Rattle.memory.specs.Reader.{readOf};
 ghost use Rattle.addressing.specs.Effective.{throughOf, effectiveOf};
 use memory::WordAnswer;
@@ -27,13 +28,24 @@ fn through<'a>(
     bases: &'a [u32; 16],
     words: &[u32],
     domain: u8,
+    recent: &[u8; 160],
     depth: u8,
     frame: Frame,
     p: Pointer,
 ) -> PointerAnswer
-    ensures { λ r. ⌜ pointerAnswer r ≡ throughOf (readOf (now (lengths .entry)) (now (rights .entry)) (now (bases .entry)) (now (words .entry)) domain depth frame) p ⌝ }
+    ensures { λ r. ⌜ pointerAnswer r ≡ throughOf (readOf (now (lengths .entry)) (now (rights .entry)) (now (bases .entry)) (now (words .entry)) domain (registersOf (now (recent .entry))) depth frame) p ⌝ }
 {
-    match read(lengths, rights, bases, words, domain, depth, frame, p) {
+    match read(
+        lengths,
+        rights,
+        bases,
+        words,
+        domain,
+        recent,
+        depth,
+        frame,
+        p,
+    ) {
         WordAnswer::Refused(n) => PointerAnswer::Refused(n),
         WordAnswer::Word(w) => match unpack(w) {
             PointerAnswer::Refused(n) => PointerAnswer::Refused(n),
@@ -53,12 +65,13 @@ pub fn effective<'a>(
     bases: &'a [u32; 16],
     words: &[u32],
     domain: u8,
+    recent: &[u8; 160],
     depth: u8,
     frame: Frame,
     pointers: [Pointer; 8],
     i: Instruction,
 ) -> PointerAnswer
-    ensures { λ r. ⌜ pointerAnswer r ≡ effectiveOf (readOf (now (lengths .entry)) (now (rights .entry)) (now (bases .entry)) (now (words .entry)) domain depth frame) pointers i ⌝ }
+    ensures { λ r. ⌜ pointerAnswer r ≡ effectiveOf (readOf (now (lengths .entry)) (now (rights .entry)) (now (bases .entry)) (now (words .entry)) domain (registersOf (now (recent .entry))) depth frame) pointers i ⌝ }
 {
     let base = pointer_at(pointers, i.base);
     match displace(base.word, i.offset) {
@@ -70,7 +83,17 @@ pub fn effective<'a>(
                 tag: base.tag,
             };
             if i.indirect {
-                through(lengths, rights, bases, words, domain, depth, frame, p)
+                through(
+                    lengths,
+                    rights,
+                    bases,
+                    words,
+                    domain,
+                    recent,
+                    depth,
+                    frame,
+                    p,
+                )
             } else {
                 PointerAnswer::Pointer(p)
             }

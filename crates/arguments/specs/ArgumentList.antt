@@ -1,8 +1,8 @@
 -- The argument list of a call through a gate, and the frame made of it.
 use Prim.Native.Nat.{ℕ, zero, suc, _+_, _*_}
 use mathlib.Core.Bool.{true, false, not}
-use mathlib.Core.List.{List}
-use lib.Dec.{leb}
+use mathlib.Core.List.{List, [], _∷_}
+use lib.Dec.{eqb, leb}
 use lib.IntN.{pos}
 use lib.ListN.{replicate, set}
 use Rattle.words.specs.Answer.{Answer, refuse, ok, _>>=_, _>>_, require, if_then_else_}
@@ -15,9 +15,10 @@ use Rattle.state.specs.declared.record.Capability.{Capability}
 use Rattle.state.specs.declared.record.Frame.{Frame}
 use Rattle.state.specs.Record.{noCapability}
 use Rattle.references.specs.Live.{passedOf}
+use Rattle.references.specs.Made.{MadeReference, madeRead}
 use Rattle.arguments.specs.declared.Framed.{Framed}
 use Rattle.memory.specs.Reader.{Reader}
-use Rattle.addressing.specs.Effective.{displacedBy}
+use Rattle.addressing.specs.Effective.{displacedBy, placed}
 
 -- word k of the list at pointer a, read under its tag; 23 first
 unfoldable pub listWord : Reader → Pointer → ℕ → Answer ℕ
@@ -76,6 +77,11 @@ unfoldable pub frameOf : Reader → Pointer → Pointer → ℕ → ℕ → Fram
 frameOf read a s caller depth live =
     listWord read a 0 >>= (λ n. require (leb n 8) badArgument >>
     (sourceOf caller depth live a (listMode n) >>= (λ source. frameAfter read a s caller depth live (listCapability a source n) n)))
+
+-- the references to k words of the list at a, from word i on; word 2 is not read
+abbrev pub listMade : Pointer → ℕ → ℕ → List MadeReference
+listMade a zero i = []
+listMade a (suc k) i = if eqb i 2 then listMade a k (i + 1) else (madeRead (placed (displacedBy a (pos i))) ∷ listMade a k (i + 1))
 
 -- the code's answer: a frame made, or a refusal by its number with the live frame as it came in
 abbrev pub framedBy : Frame → Answer Frame → Framed

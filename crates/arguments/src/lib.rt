@@ -6,6 +6,7 @@ ghost use lib.ListN.{replicate, set};
 ghost use Rattle.state.specs.Record.{noCapability};
 ghost use Rattle.capabilities.specs.Search.{capabilityAnswer};
 ghost use Rattle.references.specs.Live.{sourceAnswer};
+ghost use Rattle.lent_registers.specs.Columns.{registersOf};
 ghost use Rattle.memory.specs.Reader.{readOf, wordAnswer};
 ghost use Rattle.arguments.specs.ArgumentList.{listWord, sourceOf, capabilityOn, capabilityOf, argumentOf, argumentsFrom, listMode, filledOf, frameAfter, frameOf, framedBy};
 ghost use Rattle.arguments.specs.Private.{rowsAnswer};
@@ -29,12 +30,13 @@ fn list_word<'a>(
     bases: &'a [u32; 16],
     words: &[u32],
     domain: u8,
+    recent: &[u8; 160],
     depth: u8,
     frame: Frame,
     a: Pointer,
     k: u16,
 ) -> WordAnswer
-    ensures { λ r. ⌜ wordAnswer r ≡ listWord (readOf (now (lengths .entry)) (now (rights .entry)) (now (bases .entry)) (now (words .entry)) domain depth frame) a k ⌝ }
+    ensures { λ r. ⌜ wordAnswer r ≡ listWord (readOf (now (lengths .entry)) (now (rights .entry)) (now (bases .entry)) (now (words .entry)) domain (registersOf (now (recent .entry))) depth frame) a k ⌝ }
 {
     match climb(a.word, k) {
         words::offset::WordNumberAnswer::Refused(n) => WordAnswer::Refused(n),
@@ -44,7 +46,17 @@ fn list_word<'a>(
                 segment: a.segment,
                 tag: a.tag,
             };
-            read(lengths, rights, bases, words, domain, depth, frame, p)
+            read(
+                lengths,
+                rights,
+                bases,
+                words,
+                domain,
+                recent,
+                depth,
+                frame,
+                p,
+            )
         }
     }
 }
@@ -96,15 +108,27 @@ fn argument<'a>(
     bases: &'a [u32; 16],
     words: &[u32],
     domain: u8,
+    recent: &[u8; 160],
     depth: u8,
     frame: Frame,
     a: Pointer,
     i: u8,
 ) -> CapabilityAnswer
-    ensures { λ r. ⌜ capabilityAnswer r ≡ argumentOf (readOf (now (lengths .entry)) (now (rights .entry)) (now (bases .entry)) (now (words .entry)) domain depth frame) a domain depth frame i ⌝ }
+    ensures { λ r. ⌜ capabilityAnswer r ≡ argumentOf (readOf (now (lengths .entry)) (now (rights .entry)) (now (bases .entry)) (now (words .entry)) domain (registersOf (now (recent .entry))) depth frame) a domain depth frame i ⌝ }
 {
     let at = 3 + 2 * (i as u16);
-    match list_word(lengths, rights, bases, words, domain, depth, frame, a, at) {
+    match list_word(
+        lengths,
+        rights,
+        bases,
+        words,
+        domain,
+        recent,
+        depth,
+        frame,
+        a,
+        at,
+    ) {
         WordAnswer::Refused(n) => CapabilityAnswer::Refused(n),
         WordAnswer::Word(w) => match words::pointer::unpack(w) {
             PointerAnswer::Refused(n) => CapabilityAnswer::Refused(n),
@@ -114,6 +138,7 @@ fn argument<'a>(
                 bases,
                 words,
                 domain,
+                recent,
                 depth,
                 frame,
                 a,
@@ -160,13 +185,14 @@ fn arguments<'a>(
     bases: &'a [u32; 16],
     words: &[u32],
     domain: u8,
+    recent: &[u8; 160],
     depth: u8,
     frame: Frame,
     a: Pointer,
     n: u8,
 ) -> Rows
     requires { ⌜ n ≤ 8 ⌝ }
-    ensures { λ r. ⌜ rowsAnswer r ≡ argumentsFrom (readOf (now (lengths .entry)) (now (rights .entry)) (now (bases .entry)) (now (words .entry)) domain depth frame) a domain depth frame n 0 (replicate 9 noCapability) ⌝ }
+    ensures { λ r. ⌜ rowsAnswer r ≡ argumentsFrom (readOf (now (lengths .entry)) (now (rights .entry)) (now (bases .entry)) (now (words .entry)) domain (registersOf (now (recent .entry))) depth frame) a domain depth frame n 0 (replicate 9 noCapability) ⌝ }
 {
     let none = Capability {
         word: 0,
@@ -179,7 +205,18 @@ fn arguments<'a>(
     let mut rows = [none; 9];
     let mut i = 0u8;
     while i < n {
-        match argument(lengths, rights, bases, words, domain, depth, frame, a, i) {
+        match argument(
+            lengths,
+            rights,
+            bases,
+            words,
+            domain,
+            recent,
+            depth,
+            frame,
+            a,
+            i,
+        ) {
             CapabilityAnswer::Refused(number) => {
                 return Rows {
                     rows,
@@ -259,6 +296,7 @@ fn frame_after<'a>(
     bases: &'a [u32; 16],
     words: &[u32],
     domain: u8,
+    recent: &[u8; 160],
     depth: u8,
     frame: Frame,
     a: Pointer,
@@ -267,9 +305,20 @@ fn frame_after<'a>(
     n: u8,
 ) -> Framed
     requires { ⌜ n ≤ 8 ⌝ }
-    ensures { λ r. ⌜ r ≡ framedBy frame (frameAfter (readOf (now (lengths .entry)) (now (rights .entry)) (now (bases .entry)) (now (words .entry)) domain depth frame) a s domain depth frame list n) ⌝ }
+    ensures { λ r. ⌜ r ≡ framedBy frame (frameAfter (readOf (now (lengths .entry)) (now (rights .entry)) (now (bases .entry)) (now (words .entry)) domain (registersOf (now (recent .entry))) depth frame) a s domain depth frame list n) ⌝ }
 {
-    match list_word(lengths, rights, bases, words, domain, depth, frame, a, 1) {
+    match list_word(
+        lengths,
+        rights,
+        bases,
+        words,
+        domain,
+        recent,
+        depth,
+        frame,
+        a,
+        1,
+    ) {
         WordAnswer::Refused(number) => refuse(frame, number),
         WordAnswer::Word(w) => match words::pointer::unpack(w) {
             PointerAnswer::Refused(number) => refuse(frame, number),
@@ -286,6 +335,7 @@ fn frame_after<'a>(
                             bases,
                             words,
                             domain,
+                            recent,
                             depth,
                             frame,
                             a,
@@ -315,14 +365,26 @@ pub fn make_frame<'a>(
     bases: &'a [u32; 16],
     words: &[u32],
     domain: u8,
+    recent: &[u8; 160],
     depth: u8,
     frame: Frame,
     a: Pointer,
     s: Pointer,
 ) -> Framed
-    ensures { λ r. ⌜ r ≡ framedBy frame (frameOf (readOf (now (lengths .entry)) (now (rights .entry)) (now (bases .entry)) (now (words .entry)) domain depth frame) a s domain depth frame) ⌝ }
+    ensures { λ r. ⌜ r ≡ framedBy frame (frameOf (readOf (now (lengths .entry)) (now (rights .entry)) (now (bases .entry)) (now (words .entry)) domain (registersOf (now (recent .entry))) depth frame) a s domain depth frame) ⌝ }
 {
-    match list_word(lengths, rights, bases, words, domain, depth, frame, a, 0) {
+    match list_word(
+        lengths,
+        rights,
+        bases,
+        words,
+        domain,
+        recent,
+        depth,
+        frame,
+        a,
+        0,
+    ) {
         WordAnswer::Refused(number) => refuse(frame, number),
         WordAnswer::Word(w) => {
             if 8 < w {
@@ -340,6 +402,7 @@ pub fn make_frame<'a>(
                         bases,
                         words,
                         domain,
+                        recent,
                         depth,
                         frame,
                         a,

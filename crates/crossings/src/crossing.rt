@@ -3,6 +3,7 @@ ghost use mathlib.Core.Path.{_≡_};
 ghost use mathlib.Core.Bool.{true};
 ghost use lib.ListN.{getD};
 ghost use Rattle.state.specs.Record.{noPointer, ofSegment};
+ghost use Rattle.lent_registers.specs.Columns.{registersOf};
 ghost use Rattle.memory.specs.Reader.{readOf};
 ghost use Rattle.arguments.specs.ArgumentList.{frameOf};
 ghost use Rattle.crossings.specs.Crossing.{samePlace, atPlace, withTag, leaveCheck};
@@ -95,13 +96,14 @@ pub fn enter<'a>(
     gatedomains: &'a [u8; 16],
     stacks: &'a [u8; 8],
     words: &[u32],
+    recent: &[u8; 160],
     depth: u8,
     frame: Frame,
     r: Registers,
     pointers: [Pointer; 8],
     p: Pointer,
 ) -> Crossed
-    ensures { λ c. ⌜ c ≡ crossedBy frame pointers r (enterParts (now (gatedomains .entry)) (now (stacks .entry)) r pointers p (frameOf (readOf (now (lengths .entry)) (now (rights .entry)) (now (bases .entry)) (now (words .entry)) (r .domain) depth frame) (getD pointers 0 noPointer) (getD pointers 1 noPointer) (r .domain) depth frame)) ⌝ }
+    ensures { λ c. ⌜ c ≡ crossedBy frame pointers r (enterParts (now (gatedomains .entry)) (now (stacks .entry)) r pointers p (frameOf (readOf (now (lengths .entry)) (now (rights .entry)) (now (bases .entry)) (now (words .entry)) (r .domain) (registersOf (now (recent .entry))) depth frame) (getD pointers 0 noPointer) (getD pointers 1 noPointer) (r .domain) depth frame)) ⌝ }
 {
     let made = make_frame(
         lengths,
@@ -109,6 +111,7 @@ pub fn enter<'a>(
         bases,
         words,
         r.domain,
+        recent,
         depth,
         frame,
         pointer_at(pointers, 0),

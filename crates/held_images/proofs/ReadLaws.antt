@@ -25,11 +25,11 @@ module _ (image bytes words : List ℕ) where
   Reads number after memory =
       (number ≡ numberOf (imageRead image bytes words)) × ((after ≡ replaced bytes (machineRead (imageRead image bytes words))) × (memory ≡ memoryAfter words (imageRead image bytes words)))
 
-  pub without-room : length bytes < 919 → Reads 8 bytes words
+  pub without-room : length bytes < 1079 → Reads 8 bytes words
   unfolding imageRead memoryAfter
   without-room h = simp (lt-leb _ _ h) (refl, (refl, refl))
 
-  read-is : 919 ≤ length bytes → imageRead image bytes words ≡ readImage image words
+  read-is : 1079 ≤ length bytes → imageRead image bytes words ≡ readImage image words
   unfolding imageRead
   read-is h = simp (le-leb _ _ h)
 
@@ -46,7 +46,7 @@ module _ (image bytes words : List ℕ) where
   accepting none (refuse n) true e h = absurd (let q = image-number image n e in omega (arith, q .0, h))
   accepting none (refuse n) false e h = absurd (let z : 7 ≡ n = ap numberOf e in omega (arith, z, h))
 
-  module _ (none : Machine) (r : ReadAnswer) (memory : List ℕ) (room : 919 ≤ length bytes) (is : r ≡ machineAfter none (readImage image words)) (left : memory ≡ memoryAfter words (readImage image words)) where
+  module _ (none : Machine) (r : ReadAnswer) (memory : List ℕ) (room : 1079 ≤ length bytes) (is : r ≡ machineAfter none (readImage image words)) (left : memory ≡ memoryAfter words (readImage image words)) where
     number-is : r .number ≡ machineAfter none (readImage image words) .number
     number-is = ap (λ (x : ReadAnswer). x .number) is
 

@@ -63,7 +63,7 @@ either false a b p q = q
 
 pub rights-wide : (bytes : List ℕ) → length (recordOr bytes .layout .rights) ≡ 128
 unfolding recordOr recordIn tabulate freshOf
-rights-wide bytes = either (leb 919 (length bytes)) _ _ refl refl
+rights-wide bytes = either (leb 1079 (length bytes)) _ _ refl refl
 
 -- the answers about a record
 module _ (m : Machine) (words output : List ℕ) where

@@ -15,7 +15,7 @@ use Rattle.held_runs.specs.Opened.{opened}
 
 -- the image, or the refusal; 8, where bytes have no room for a record, comes first
 unfoldable pub imageRead : List ℕ → List ℕ → List ℕ → Answer Image
-imageRead image bytes words = require (leb 919 (length bytes)) outputTooShort >> readImage image words
+imageRead image bytes words = require (leb 1079 (length bytes)) outputTooShort >> readImage image words
 
 -- the fresh machine of an image
 abbrev pub machineRead : Answer Image → Answer Machine

@@ -21,7 +21,7 @@ pub fn read_held(image: &[u8], bytes: &mut [u8], words: &mut [u32]) -> u8
     ensures bytes { λ r. ⌜ now (bytes .exit) ≡ replaced (now (bytes .entry)) (machineRead (imageRead (now (image .entry)) (now (bytes .entry)) (now (words .entry)))) ⌝ }
     ensures words { λ r. ⌜ now (words .exit) ≡ memoryAfter (now (words .entry)) (imageRead (now (image .entry)) (now (bytes .entry)) (now (words .entry))) ⌝ }
 {
-    if bytes.len() < 919 {
+    if bytes.len() < 1079 {
         return 8;
     }
     let none = empty_layout();

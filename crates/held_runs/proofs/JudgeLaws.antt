@@ -12,8 +12,9 @@ use Rattle.state.specs.declared.record.Machine.{Machine}
 use Rattle.state.specs.Record.{noFrame, freeFrame}
 use Rattle.layout_soundness.specs.SoundLayout.{allFrom, layoutTest}
 use Rattle.layout_soundness.proofs.All.{each, all}
-use Rattle.layout_soundness.proofs.Tests.{pass, both}
+use Rattle.layout_soundness.proofs.Tests.{pass, stop, both}
 use Rattle.soundness.specs.Sound.{registersTest, pointersTest, emptyPointer, emptyCapability, emptyFrame, frameTest, framesTest, soundTest}
+use Rattle.recent.specs.SoundRegisters.{recentTest}
 use Rattle.soundness.proofs.Facts.{frame-facts, facts-frame, frames-facts, facts-frames}
 use Rattle.snapshot_format.specs.Format.{Format, counted, rowsOf}
 use Rattle.snapshot_format.specs.RecordForm.{recordForm, layoutForm, registersForm, pointerForm, frameForm, recordIn}
@@ -34,7 +35,8 @@ free-in bytes e =
     let l = both (layoutForm .proper bytes 0) _ e in
     let r = both (registersForm .proper bytes 222) _ (l .1) in
     let p = both (rowsOf 8 pointerForm .proper bytes _) _ (r .1) in
-    let t = counted-facts 8 freeFrame noFrame frameForm bytes _ (p .1) in
+    let c = both (counted 8 freeFrame frameForm .proper bytes _) _ (p .1) in
+    let t = counted-facts 8 freeFrame noFrame frameForm bytes _ (c .0) in
     record { most = t .0; free = t .1 }
 
 passed : (long proper : Bool) (n : ℕ) → n ≡ numberOf (require long 8 >> require proper 9) → n ≡ 0 → (long ≡ true) × (proper ≡ true)
@@ -45,7 +47,7 @@ passed false proper n e h = absurd (omega arith)
 pub unused-free : (bytes : List ℕ) (m : Machine) (n : ℕ) → m ≡ recordOr bytes → n ≡ numberOf (formed bytes) → n ≡ 0 → UnusedFree m
 unfolding formed recordOr
 unused-free bytes m n q e h =
-    let t = passed (leb 919 (length bytes)) (recordForm .proper bytes 0) n e h in
+    let t = passed (leb 1079 (length bytes)) (recordForm .proper bytes 0) n e h in
     rw (q, t .0) (free-in bytes (t .1))
 
 same : (a b : Bool) → (a ≡ true → b ≡ true) → (b ≡ true → a ≡ true) → a ≡ b
@@ -65,10 +67,18 @@ frames-in-use m domains u =
     (λ e. all _ (λ i. frameTest domains (getD (m .frames) i noFrame)) (λ i h. facts-frame _ _ (frames-facts _ _ _ e .used i h)))
 
 -- the parts of a sound record but its frames, and then these
-pub sound-by : (m : Machine) {r : Bool} → layoutTest (m .layout) ≡ true → registersTest (m .layout .domains) (m .registers) ≡ true → pointersTest (m .pointers) ≡ true
-    → UnusedFree m → r ≡ allFrom (m .depth) 0 (λ i. frameTest (m .layout .domains) (getD (m .frames) i noFrame)) → r ≡ soundTest m
-unfolding soundTest
-sound-by m l r p u e = pass l (pass r (pass p (e ∙ frames-in-use m _ u)))
+module _ (m : Machine) (l : layoutTest (m .layout) ≡ true) (g : registersTest (m .layout .domains) (m .registers) ≡ true) (p : pointersTest (m .pointers) ≡ true) (u : UnusedFree m) where
+  abbrev used : Bool
+  used = allFrom (m .depth) 0 (λ i. frameTest (m .layout .domains) (getD (m .frames) i noFrame))
+
+  pub frames-fail : false ≡ used → false ≡ soundTest m
+  unfolding soundTest
+  frames-fail e = pass l (pass g (pass p (stop _ (sym (e ∙ frames-in-use m _ u)))))
+
+  -- and last the registers
+  pub sound-rest : {r : Bool} → true ≡ used → r ≡ recentTest (m .depth) (m .frames) (m .recent) → r ≡ soundTest m
+  unfolding soundTest
+  sound-rest e q = pass l (pass g (pass p (pass (sym (e ∙ frames-in-use m _ u)) q)))
 
 module _ (m : Machine) (words : List ℕ) where
   pub judged-unsound : false ≡ soundTest m → 9 ≡ judged m words

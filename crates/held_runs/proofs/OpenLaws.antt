@@ -31,11 +31,11 @@ taken false proper m none n e h = absurd (omega arith)
 module _ (bytes : List ℕ) (n : ℕ) (e : n ≡ numberOf (formed bytes)) where
   pub opened-refused : (n ≡ 0 → ⊥) → opened bytes ≡ refuse n
   unfolding opened formed
-  opened-refused h = refusal (leb 919 (length bytes)) (recordForm .proper bytes 0) (recordIn bytes) n e h
+  opened-refused h = refusal (leb 1079 (length bytes)) (recordForm .proper bytes 0) (recordIn bytes) n e h
 
   pub opened-ok : n ≡ 0 → opened bytes ≡ ok (recordOr bytes)
   unfolding opened formed recordOr
-  opened-ok h = taken (leb 919 (length bytes)) (recordForm .proper bytes 0) (recordIn bytes) _ n e h
+  opened-ok h = taken (leb 1079 (length bytes)) (recordForm .proper bytes 0) (recordIn bytes) _ n e h
 
 -- a record is judged on its bytes and then by itself, or both at once
 at-once : (long proper : Bool) (test : Machine → Bool) (m : Machine)
@@ -46,4 +46,4 @@ at-once false proper test m = refl
 
 pub held-opened : HeldOpened
 unfolding held opened formed
-held-opened bytes = at-once (leb 919 (length bytes)) (recordForm .proper bytes 0) soundTest (recordIn bytes)
+held-opened bytes = at-once (leb 1079 (length bytes)) (recordForm .proper bytes 0) soundTest (recordIn bytes)

@@ -6,7 +6,7 @@ use Rattle.state.specs.declared.record.Machine.{Machine}
 use Rattle.snapshot_format.specs.RecordForm.{recordIn, withRecord}
 use Rattle.snapshot_reader.specs.Formed.{formed}
 
--- 8 where the bytes are fewer than 919, 9 where no record has them; a record that is not sound is refused, with 9 too, by what is done with it
+-- 8 where the bytes are fewer than 1,079, 9 where no record has them; a record that is not sound is refused, with 9 too, by what is done with it
 unfoldable pub opened : List ℕ → Answer Machine
 opened bytes = formed bytes >> ok (recordIn bytes)
 

@@ -64,6 +64,11 @@ fn judge(m: Machine, words: &[u32]) -> u8
         }
         i += 1;
     }
+    let frames = m.frames;
+    let recent = m.recent;
+    if !recent::registers::registers_sound(m.depth, frames, recent) {
+        return 9;
+    }
     if words.len() < 8192 {
         return 7;
     }

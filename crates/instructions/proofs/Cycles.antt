@@ -7,6 +7,7 @@ use lib.Dec.{eqb}
 use Rattle.words.specs.Answer.{Answer, refuse, ok, _>>=_, if_then_else_}
 use Rattle.words.specs.declared.pointer.Pointer.{Pointer}
 use Rattle.state.specs.declared.record.Frame.{Frame}
+use Rattle.state.specs.declared.record.Register.{Register}
 use Rattle.state.specs.declared.record.Registers.{Registers}
 use Rattle.references.specs.Reference.{accept}
 use Rattle.memory.specs.Reader.{Reader}
@@ -18,12 +19,12 @@ use Rattle.instructions.specs.Cycle.{Progress, moved, entering, movedReg
 use Rattle.memory.proofs.Answers.{accept-then}
 use Rattle.instructions.specs.Private.{loaded, called, settledAnswer}
 
-module _ (lengths gates rights stacks bases words : List ℕ) (depth : ℕ) (frame : Frame) (r : Registers) (pointers : List Pointer) where
+module _ (lengths gates rights stacks bases words : List ℕ) (recent : List Register) (depth : ℕ) (frame : Frame) (r : Registers) (pointers : List Pointer) (q : Pointer) where
   abbrev to : Answer Plan → Answer Progress
-  to = settledAnswer lengths rights bases words depth frame r pointers
+  to = settledAnswer lengths rights bases words recent depth frame r pointers q
 
   abbrev left : Answer Plan → List ℕ
-  left = settledWords lengths rights bases words depth frame r pointers
+  left = settledWords lengths rights bases words recent depth frame r pointers
 
   -- a plan without a store that settles there
   pub record Settles (plan : Answer Plan) (turned : Answer Progress) : Type 0 where

@@ -1,4 +1,5 @@
 pub mod Plan
 pub mod Instruction
+pub mod Made
 pub mod Cycle
 pub mod Private

@@ -1,6 +1,6 @@
 -- Definitions that only contracts of private functions cite.
 use Prim.Native.Nat.{ℕ, _+_}
-use mathlib.Core.Bool.{Bool, true, not}
+use mathlib.Core.Bool.{Bool, true, false, not}
 use mathlib.Core.List.{List}
 use lib.Dec.{eqb}
 use Rattle.words.specs.Answer.{Answer, ok, _>>=_, if_then_else_}
@@ -10,8 +10,13 @@ use Rattle.pointer_registers.specs.Stack.{withBase}
 use Rattle.instructions.specs.Plan.{Plan}
 use mathlib.Core.Path.{_≡_}
 use Rattle.state.specs.declared.record.Frame.{Frame}
+use Rattle.state.specs.declared.record.Register.{Register}
 use Rattle.instructions.specs.declared.cycle.Cycle.{Cycle}
+use Rattle.instructions.specs.declared.cycle.Event.{Event}
+use Rattle.instructions.specs.declared.cycle.Event.the-variants as event
 use Rattle.instructions.specs.Instruction.{operateOf, JUMP, RET, takenOf}
+use Rattle.words.specs.declared.instruction.Instruction.{Instruction}
+use Rattle.instructions.specs.Made.{indirectPlace}
 use Rattle.instructions.specs.Cycle.{Progress, moved, entering, cycleAnswer, movedRegisters, settled}
 
 -- whether an opcode jumps to an effective pointer of this tag
@@ -32,5 +37,18 @@ called r pointers stack p way =
     way >>= (λ inside. if inside then ok (moved (movedRegisters r (r .a) (p .segment) (p .word)) (withBase pointers stack)) else ok (entering p))
 
 -- a plan carried out, where there is one
-abbrev pub settledAnswer : List ℕ → List ℕ → List ℕ → List ℕ → ℕ → Frame → Registers → List Pointer → Answer Plan → Answer Progress
-settledAnswer lengths rights bases words depth frame r pointers plan = plan >>= settled lengths rights bases words depth frame r pointers
+abbrev pub settledAnswer : List ℕ → List ℕ → List ℕ → List ℕ → List Register → ℕ → Frame → Registers → List Pointer → Pointer → Answer Plan → Answer Progress
+settledAnswer lengths rights bases words recent depth frame r pointers q plan = plan >>= settled lengths rights bases words recent depth frame r pointers q
+
+-- an untagged effective pointer had an untagged indirect word
+abbrev pub Reached : List Pointer → Instruction → Pointer → Type 0
+Reached pointers i p = p .tag ≡ false → indirectPlace pointers i .tag ≡ false
+
+-- an instruction moved on
+abbrev pub isMoved : Event → Bool
+isMoved event.Moved = true
+isMoved (event.Pointed i p) = true
+isMoved event.Halted = false
+isMoved (event.Entering p) = false
+isMoved (event.Leaving p q) = false
+isMoved (event.Faulted n) = false

@@ -1,16 +1,23 @@
 // One instruction, but for a crossing.
 ghost use mathlib.Core.Path.{_≡_};
 ghost use Prim.Native.Nat.{_<_};
+ghost use Rattle.lent_registers.specs.Columns.{registersOf};
+ghost use Rattle.references.specs.Made.{renewedAll};
 ghost use Rattle.memory.specs.Reader.{readOf};
-ghost use Rattle.instructions.specs.Instruction.{isLoad, isStore, valueOf, effectOf, executeOf};
-ghost use Rattle.instructions.specs.Cycle.{Stays, cycleAnswer, cycleOf, cycleWords, settledWords};
-ghost use Rattle.instructions.specs.Private.{jumpsOf, settledAnswer};
+ghost use Rattle.instructions.specs.Instruction.{valueOf, effectOf, executeOf};
+ghost use Rattle.instructions.specs.Cycle.{Stays, cycleAnswer, cycleOf, cycleWords, cycleRecent, settledWords, recentBy};
+ghost use Rattle.instructions.specs.Made.{indirectPlace, madeAt, madeBy};
+ghost use Rattle.instructions.specs.Private.{jumpsOf, settledAnswer, isMoved, Reached};
 use crate::effects::call;
 use crate::effects::go_to;
 use crate::effects::load;
 use crate::effects::onward;
 use crate::effects::save;
 use crate::effects::stay;
+use crate::made::indirect_place;
+use crate::made::note;
+use crate::opcodes::is_load;
+use crate::opcodes::is_store;
 use addressing::effective;
 use memory::WordAnswer;
 use memory::fetch;
@@ -33,35 +40,14 @@ pub enum Event {
     Pointed(u8, Pointer),
     Halted,
     Entering(Pointer),
-    Leaving(Pointer),
+    // to the first pointer, by an instruction with its indirect word at the second, untagged where it has none
+    Leaving(Pointer, Pointer),
     Faulted(u8),
 }
 
 pub struct Cycle {
     pub registers: Registers,
     pub event: Event,
-}
-
-// The opcodes that read into A, and those that store.
-fn is_load(opcode: u8) -> bool
-    ensures { λ t. ⌜ t ≡ isLoad opcode ⌝ }
-{
-    if opcode == 1 {
-        return true;
-    }
-    if opcode == 3 {
-        return true;
-    }
-    opcode == 4
-}
-
-fn is_store(opcode: u8) -> bool
-    ensures { λ t. ⌜ t ≡ isStore opcode ⌝ }
-{
-    if opcode == 2 {
-        return true;
-    }
-    opcode == 6
 }
 
 // The word that STORE or SPP stores.
@@ -95,25 +81,37 @@ fn effect<'a>(
     stacks: &'a [u8; 8],
     bases: &'a [u32; 16],
     words: &mut [u32],
+    recent: &[u8; 160],
     depth: u8,
     frame: Frame,
     r: Registers,
     pointers: [Pointer; 8],
-    opcode: u8,
-    register: u8,
+    i: Instruction,
     p: Pointer,
 ) -> Cycle
     requires { ⌜ r .word < 65535 ⌝ }
-    ensures { λ t. ⌜ cycleAnswer pointers t ≡ settledAnswer (now (lengths .entry)) (now (rights .entry)) (now (bases .entry)) (now (words .entry)) depth frame r pointers (effectOf (now (lengths .entry)) (now (gates .entry)) (now (rights .entry)) (now (stacks .entry)) depth r pointers (readOf (now (lengths .entry)) (now (rights .entry)) (now (bases .entry)) (now (words .entry)) (r .domain) depth frame) opcode register p) ⌝ }
-    ensures { λ t. ⌜ now (words .exit) ≡ settledWords (now (lengths .entry)) (now (rights .entry)) (now (bases .entry)) (now (words .entry)) depth frame r pointers (effectOf (now (lengths .entry)) (now (gates .entry)) (now (rights .entry)) (now (stacks .entry)) depth r pointers (readOf (now (lengths .entry)) (now (rights .entry)) (now (bases .entry)) (now (words .entry)) (r .domain) depth frame) opcode register p) ⌝ }
+    ensures { λ t. ⌜ cycleAnswer pointers t ≡ settledAnswer (now (lengths .entry)) (now (rights .entry)) (now (bases .entry)) (now (words .entry)) (registersOf (now (recent .entry))) depth frame r pointers (indirectPlace pointers i) (effectOf (now (lengths .entry)) (now (gates .entry)) (now (rights .entry)) (now (stacks .entry)) depth r pointers (readOf (now (lengths .entry)) (now (rights .entry)) (now (bases .entry)) (now (words .entry)) (r .domain) (registersOf (now (recent .entry))) depth frame) (i .opcode) (i .register) p) ⌝ }
+    ensures { λ t. ⌜ now (words .exit) ≡ settledWords (now (lengths .entry)) (now (rights .entry)) (now (bases .entry)) (now (words .entry)) (registersOf (now (recent .entry))) depth frame r pointers (effectOf (now (lengths .entry)) (now (gates .entry)) (now (rights .entry)) (now (stacks .entry)) depth r pointers (readOf (now (lengths .entry)) (now (rights .entry)) (now (bases .entry)) (now (words .entry)) (r .domain) (registersOf (now (recent .entry))) depth frame) (i .opcode) (i .register) p) ⌝ }
     ensures { λ t. ⌜ Stays r t ⌝ }
 {
+    let opcode = i.opcode;
     if is_load(opcode) {
-        return load(lengths, rights, bases, words, depth, frame, r, opcode, p);
+        return load(
+            lengths,
+            rights,
+            bases,
+            words,
+            recent,
+            depth,
+            frame,
+            r,
+            opcode,
+            p,
+        );
     }
     if is_store(opcode) {
-        let v = value(opcode, r.a, pointers, register);
-        return save(lengths, rights, bases, words, depth, frame, r, p, v);
+        let v = value(opcode, r.a, pointers, i.register);
+        return save(lengths, rights, bases, words, recent, depth, frame, r, p, v);
     }
     if jumps(opcode, r.a, p.tag) {
         let n = jump_check(lengths, rights, r.domain, p);
@@ -123,11 +121,80 @@ fn effect<'a>(
         return go_to(r, p, Event::Moved);
     }
     match opcode {
-        5 => onward(r, r.a, Event::Pointed(register, p)),
+        5 => onward(r, r.a, Event::Pointed(i.register, p)),
         8 => call(lengths, gates, rights, stacks, depth, r, p),
-        9 => stay(r, Event::Leaving(p)),
+        9 => stay(r, Event::Leaving(p, indirect_place(pointers, i))),
         _ => onward(r, r.a, Event::Moved),
     }
+}
+
+// Whether an instruction moved on.
+fn moves_on(event: Event) -> bool
+    ensures { λ t. ⌜ t ≡ isMoved event ⌝ }
+{
+    match event {
+        Event::Moved => true,
+        Event::Pointed(i, p) => true,
+        Event::Halted => false,
+        Event::Entering(p) => false,
+        Event::Leaving(p, q) => false,
+        Event::Faulted(n) => false,
+    }
+}
+
+// An instruction at its effective pointer; where it moves on, its live references are noted in the registers.
+fn carry_out<'a>(
+    lengths: &'a [u16; 16],
+    gates: &'a [u16; 16],
+    rights: &'a [u8; 128],
+    stacks: &'a [u8; 8],
+    bases: &'a [u32; 16],
+    words: &mut [u32],
+    recent: &mut [u8; 160],
+    depth: u8,
+    frame: Frame,
+    r: Registers,
+    pointers: [Pointer; 8],
+    i: Instruction,
+    p: Pointer,
+) -> Cycle
+    requires { ⌜ (r .word < 65535) × Reached pointers i p ⌝ }
+    ensures { λ t. ⌜ cycleAnswer pointers t ≡ settledAnswer (now (lengths .entry)) (now (rights .entry)) (now (bases .entry)) (now (words .entry)) (registersOf (now (recent .entry))) depth frame r pointers (indirectPlace pointers i) (effectOf (now (lengths .entry)) (now (gates .entry)) (now (rights .entry)) (now (stacks .entry)) depth r pointers (readOf (now (lengths .entry)) (now (rights .entry)) (now (bases .entry)) (now (words .entry)) (r .domain) (registersOf (now (recent .entry))) depth frame) (i .opcode) (i .register) p) ⌝ }
+    ensures { λ t. ⌜ now (words .exit) ≡ settledWords (now (lengths .entry)) (now (rights .entry)) (now (bases .entry)) (now (words .entry)) (registersOf (now (recent .entry))) depth frame r pointers (effectOf (now (lengths .entry)) (now (gates .entry)) (now (rights .entry)) (now (stacks .entry)) depth r pointers (readOf (now (lengths .entry)) (now (rights .entry)) (now (bases .entry)) (now (words .entry)) (r .domain) (registersOf (now (recent .entry))) depth frame) (i .opcode) (i .register) p) ⌝ }
+    ensures { λ t. ⌜ Stays r t ⌝ }
+    ensures { λ t. ⌜ registersOf (now (recent .exit)) ≡ recentBy (registersOf (now (recent .entry))) (renewedAll (registersOf (now (recent .entry))) depth frame (madeAt pointers i p)) (cycleAnswer pointers t) ⌝ }
+{
+    let t = effect(
+        lengths,
+        gates,
+        rights,
+        stacks,
+        bases,
+        words,
+        recent,
+        depth,
+        frame,
+        r,
+        pointers,
+        i,
+        p,
+    );
+    if !p.tag {
+        return t;
+    }
+    let event = t.event;
+    if !moves_on(event) {
+        return t;
+    }
+    note(
+        recent,
+        depth,
+        frame,
+        indirect_place(pointers, i),
+        i.opcode,
+        p,
+    );
+    t
 }
 
 // An instruction: HALT and LIT form no effective pointer.
@@ -138,6 +205,7 @@ fn perform<'a>(
     stacks: &'a [u8; 8],
     bases: &'a [u32; 16],
     words: &mut [u32],
+    recent: &mut [u8; 160],
     depth: u8,
     frame: Frame,
     r: Registers,
@@ -145,9 +213,10 @@ fn perform<'a>(
     i: Instruction,
 ) -> Cycle
     requires { ⌜ r .word < 65535 ⌝ }
-    ensures { λ t. ⌜ cycleAnswer pointers t ≡ settledAnswer (now (lengths .entry)) (now (rights .entry)) (now (bases .entry)) (now (words .entry)) depth frame r pointers (executeOf (now (lengths .entry)) (now (gates .entry)) (now (rights .entry)) (now (stacks .entry)) depth r pointers (readOf (now (lengths .entry)) (now (rights .entry)) (now (bases .entry)) (now (words .entry)) (r .domain) depth frame) i) ⌝ }
-    ensures { λ t. ⌜ now (words .exit) ≡ settledWords (now (lengths .entry)) (now (rights .entry)) (now (bases .entry)) (now (words .entry)) depth frame r pointers (executeOf (now (lengths .entry)) (now (gates .entry)) (now (rights .entry)) (now (stacks .entry)) depth r pointers (readOf (now (lengths .entry)) (now (rights .entry)) (now (bases .entry)) (now (words .entry)) (r .domain) depth frame) i) ⌝ }
+    ensures { λ t. ⌜ cycleAnswer pointers t ≡ settledAnswer (now (lengths .entry)) (now (rights .entry)) (now (bases .entry)) (now (words .entry)) (registersOf (now (recent .entry))) depth frame r pointers (indirectPlace pointers i) (executeOf (now (lengths .entry)) (now (gates .entry)) (now (rights .entry)) (now (stacks .entry)) depth r pointers (readOf (now (lengths .entry)) (now (rights .entry)) (now (bases .entry)) (now (words .entry)) (r .domain) (registersOf (now (recent .entry))) depth frame) i) ⌝ }
+    ensures { λ t. ⌜ now (words .exit) ≡ settledWords (now (lengths .entry)) (now (rights .entry)) (now (bases .entry)) (now (words .entry)) (registersOf (now (recent .entry))) depth frame r pointers (executeOf (now (lengths .entry)) (now (gates .entry)) (now (rights .entry)) (now (stacks .entry)) depth r pointers (readOf (now (lengths .entry)) (now (rights .entry)) (now (bases .entry)) (now (words .entry)) (r .domain) (registersOf (now (recent .entry))) depth frame) i) ⌝ }
     ensures { λ t. ⌜ Stays r t ⌝ }
+    ensures { λ t. ⌜ registersOf (now (recent .exit)) ≡ recentBy (registersOf (now (recent .entry))) (renewedAll (registersOf (now (recent .entry))) depth frame (madeBy (readOf (now (lengths .entry)) (now (rights .entry)) (now (bases .entry)) (now (words .entry)) (r .domain) (registersOf (now (recent .entry))) depth frame) pointers i)) (cycleAnswer pointers t) ⌝ }
 {
     let opcode = i.opcode;
     if opcode == 0 {
@@ -162,25 +231,26 @@ fn perform<'a>(
         bases,
         words,
         r.domain,
+        recent,
         depth,
         frame,
         pointers,
         i,
     ) {
         PointerAnswer::Refused(n) => stay(r, Event::Faulted(n)),
-        PointerAnswer::Pointer(p) => effect(
+        PointerAnswer::Pointer(p) => carry_out(
             lengths,
             gates,
             rights,
             stacks,
             bases,
             words,
+            recent,
             depth,
             frame,
             r,
             pointers,
-            opcode,
-            i.register,
+            i,
             p,
         ),
     }
@@ -194,14 +264,16 @@ pub fn run_cycle<'a>(
     stacks: &'a [u8; 8],
     bases: &'a [u32; 16],
     words: &mut [u32],
+    recent: &mut [u8; 160],
     depth: u8,
     frame: Frame,
     r: Registers,
     pointers: [Pointer; 8],
 ) -> Cycle
-    ensures { λ t. ⌜ cycleAnswer pointers t ≡ cycleOf (now (lengths .entry)) (now (gates .entry)) (now (rights .entry)) (now (stacks .entry)) (now (bases .entry)) (now (words .entry)) depth frame r pointers ⌝ }
-    ensures { λ t. ⌜ now (words .exit) ≡ cycleWords (now (lengths .entry)) (now (gates .entry)) (now (rights .entry)) (now (stacks .entry)) (now (bases .entry)) (now (words .entry)) depth frame r pointers ⌝ }
+    ensures { λ t. ⌜ cycleAnswer pointers t ≡ cycleOf (now (lengths .entry)) (now (gates .entry)) (now (rights .entry)) (now (stacks .entry)) (now (bases .entry)) (now (words .entry)) (registersOf (now (recent .entry))) depth frame r pointers ⌝ }
+    ensures { λ t. ⌜ now (words .exit) ≡ cycleWords (now (lengths .entry)) (now (gates .entry)) (now (rights .entry)) (now (stacks .entry)) (now (bases .entry)) (now (words .entry)) (registersOf (now (recent .entry))) depth frame r pointers ⌝ }
     ensures { λ t. ⌜ Stays r t ⌝ }
+    ensures { λ t. ⌜ registersOf (now (recent .exit)) ≡ cycleRecent (now (lengths .entry)) (now (gates .entry)) (now (rights .entry)) (now (stacks .entry)) (now (bases .entry)) (now (words .entry)) (registersOf (now (recent .entry))) depth frame r pointers ⌝ }
 {
     match fetch(lengths, rights, bases, words, r.domain, r.segment, r.word) {
         WordAnswer::Refused(n) => stay(r, Event::Faulted(n)),
@@ -214,6 +286,7 @@ pub fn run_cycle<'a>(
                 stacks,
                 bases,
                 words,
+                recent,
                 depth,
                 frame,
                 r,

@@ -1,6 +1,8 @@
 // The effects of loads, stores and calls, and where an instruction goes on.
 ghost use mathlib.Core.Path.{_≡_};
 ghost use Prim.Native.Nat.{_<_, _+_};
+ghost use Rattle.state.specs.Record.{noPointer};
+ghost use Rattle.lent_registers.specs.Columns.{registersOf};
 ghost use Rattle.memory.specs.Reader.{readOf, writtenOf};
 ghost use Rattle.instructions.specs.Plan.{store};
 ghost use Rattle.transfers.specs.Transfer.{callWay};
@@ -82,6 +84,7 @@ pub fn load<'a>(
     rights: &'a [u8; 128],
     bases: &'a [u32; 16],
     words: &[u32],
+    recent: &[u8; 160],
     depth: u8,
     frame: Frame,
     r: Registers,
@@ -89,10 +92,20 @@ pub fn load<'a>(
     p: Pointer,
 ) -> Cycle
     requires { ⌜ r .word < 65535 ⌝ }
-    ensures { λ t. ⌜ Cycles t (λ ps. loaded r ps opcode (readOf (now (lengths .entry)) (now (rights .entry)) (now (bases .entry)) (now (words .entry)) (r .domain) depth frame p)) ⌝ }
+    ensures { λ t. ⌜ Cycles t (λ ps. loaded r ps opcode (readOf (now (lengths .entry)) (now (rights .entry)) (now (bases .entry)) (now (words .entry)) (r .domain) (registersOf (now (recent .entry))) depth frame p)) ⌝ }
     ensures { λ t. ⌜ Stays r t ⌝ }
 {
-    match read(lengths, rights, bases, words, r.domain, depth, frame, p) {
+    match read(
+        lengths,
+        rights,
+        bases,
+        words,
+        r.domain,
+        recent,
+        depth,
+        frame,
+        p,
+    ) {
         WordAnswer::Refused(n) => stay(r, Event::Faulted(n)),
         WordAnswer::Word(w) => onward(r, operate(opcode, r.a, w), Event::Moved),
     }
@@ -104,6 +117,7 @@ pub fn save<'a>(
     rights: &'a [u8; 128],
     bases: &'a [u32; 16],
     words: &mut [u32],
+    recent: &[u8; 160],
     depth: u8,
     frame: Frame,
     r: Registers,
@@ -111,8 +125,8 @@ pub fn save<'a>(
     value: u32,
 ) -> Cycle
     requires { ⌜ r .word < 65535 ⌝ }
-    ensures { λ t. ⌜ Cycles t (λ ps. settled (now (lengths .entry)) (now (rights .entry)) (now (bases .entry)) (now (words .entry)) depth frame r ps (store p value)) ⌝ }
-    ensures { λ t. ⌜ now (words .exit) ≡ writtenOf (now (lengths .entry)) (now (rights .entry)) (now (bases .entry)) (now (words .entry)) (r .domain) depth frame p value ⌝ }
+    ensures { λ t. ⌜ Cycles t (λ ps. settled (now (lengths .entry)) (now (rights .entry)) (now (bases .entry)) (now (words .entry)) (registersOf (now (recent .entry))) depth frame r ps noPointer (store p value)) ⌝ }
+    ensures { λ t. ⌜ now (words .exit) ≡ writtenOf (now (lengths .entry)) (now (rights .entry)) (now (bases .entry)) (now (words .entry)) (r .domain) (registersOf (now (recent .entry))) depth frame p value ⌝ }
     ensures { λ t. ⌜ Stays r t ⌝ }
 {
     let n = write(
@@ -121,6 +135,7 @@ pub fn save<'a>(
         bases,
         words,
         r.domain,
+        recent,
         depth,
         frame,
         p,

@@ -1,6 +1,7 @@
 // A local run: instructions inside the executing domain, up to the first that ends a run or crosses.
 ghost use mathlib.Core.Path.{_≡_};
 ghost use Prim.Native.Nat.{_-_};
+ghost use Rattle.lent_registers.specs.Columns.{registersOf};
 ghost use Rattle.local_runs.specs.LocalRun.{localFrom};
 use instructions::cycle::Event;
 use instructions::cycle::run_cycle;
@@ -25,6 +26,7 @@ pub fn run_local<'a>(
     stacks: &'a [u8; 8],
     bases: &'a [u32; 16],
     words: &mut [u32],
+    recent: &mut [u8; 160],
     depth: u8,
     frame: Frame,
     from: u16,
@@ -32,8 +34,9 @@ pub fn run_local<'a>(
     r: Registers,
     ps: [Pointer; 8],
 ) -> Pause
-    ensures { λ t. ⌜ t ≡ localFrom (now (lengths .entry)) (now (gates .entry)) (now (rights .entry)) (now (stacks .entry)) (now (bases .entry)) depth frame (limit - from) from r ps (now (words .entry)) .pause ⌝ }
-    ensures { λ t. ⌜ now (words .exit) ≡ localFrom (now (lengths .entry)) (now (gates .entry)) (now (rights .entry)) (now (stacks .entry)) (now (bases .entry)) depth frame (limit - from) from r ps (now (words .entry)) .words ⌝ }
+    ensures { λ t. ⌜ t ≡ localFrom (now (lengths .entry)) (now (gates .entry)) (now (rights .entry)) (now (stacks .entry)) (now (bases .entry)) depth frame (limit - from) from r ps (now (words .entry)) (registersOf (now (recent .entry))) .pause ⌝ }
+    ensures { λ t. ⌜ now (words .exit) ≡ localFrom (now (lengths .entry)) (now (gates .entry)) (now (rights .entry)) (now (stacks .entry)) (now (bases .entry)) depth frame (limit - from) from r ps (now (words .entry)) (registersOf (now (recent .entry))) .words ⌝ }
+    ensures { λ t. ⌜ registersOf (now (recent .exit)) ≡ localFrom (now (lengths .entry)) (now (gates .entry)) (now (rights .entry)) (now (stacks .entry)) (now (bases .entry)) depth frame (limit - from) from r ps (now (words .entry)) (registersOf (now (recent .entry))) .recent ⌝ }
 {
     let mut a = r.a;
     let mut word = r.word;
@@ -49,6 +52,7 @@ pub fn run_local<'a>(
             stacks,
             bases,
             words,
+            recent,
             depth,
             frame,
             Registers {

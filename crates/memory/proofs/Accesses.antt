@@ -10,6 +10,7 @@ use lib.ListN.{getD}
 use Rattle.words.specs.Answer.{refuse, ok, if_then_else_}
 use Rattle.words.specs.declared.pointer.Pointer.{Pointer}
 use Rattle.state.specs.declared.record.Frame.{Frame}
+use Rattle.state.specs.declared.record.Register.{Register}
 use Rattle.references.specs.declared.flag.Access.{Access}
 use Rattle.references.specs.Static.{exists, staticOf}
 use Rattle.references.specs.Reference.{locateOf, referenceOf, verdictOf}
@@ -30,11 +31,11 @@ unfolding fetchOf locateOf staticOf
 fetch-absent lengths rights bases words d s w h = rw (absent lengths s w h)
 
 -- what a reference that was refused or passed says of its number
-module _ (lengths rights bases : List ℕ) (d depth : ℕ) (f : Frame) (a : Access) (p : Pointer) where
-  pub reference-refused : (n : ℕ) → refuse n ≡ referenceOf lengths rights bases d depth f a p → n ≡ verdictOf lengths rights d depth f a p
+module _ (lengths rights bases : List ℕ) (d : ℕ) (rs : List Register) (depth : ℕ) (f : Frame) (a : Access) (p : Pointer) where
+  pub reference-refused : (n : ℕ) → refuse n ≡ referenceOf lengths rights bases d rs depth f a p → n ≡ verdictOf lengths rights d rs depth f a p
   unfolding referenceOf
   reference-refused n e = refused-number _ _ _ e
 
-  pub reference-passed : (i : ℕ) → ok i ≡ referenceOf lengths rights bases d depth f a p → 0 ≡ verdictOf lengths rights d depth f a p
+  pub reference-passed : (i : ℕ) → ok i ≡ referenceOf lengths rights bases d rs depth f a p → 0 ≡ verdictOf lengths rights d rs depth f a p
   unfolding referenceOf
   reference-passed i e = sym (accepted-number _ _ _ e)

@@ -4,6 +4,7 @@ ghost use Prim.Native.Nat.{ℕ, _<_};
 ghost use lib.ListN.{getD, set};
 ghost use Rattle.references.specs.Reference.{verdictOf};
 ghost use Rattle.references.specs.declared.flag.Access.the-variants as access;
+ghost use Rattle.lent_registers.specs.Columns.{registersOf};
 ghost use Rattle.memory.specs.Reader.{readOf, fetchOf, writtenOf, wordAnswer};
 ghost use Rattle.state.specs.Record.{ofSegment};
 use references::flag::Access;
@@ -41,17 +42,19 @@ pub fn read<'a>(
     bases: &'a [u32; 16],
     words: &[u32],
     domain: u8,
+    recent: &[u8; 160],
     depth: u8,
     frame: Frame,
     p: Pointer,
 ) -> WordAnswer
-    ensures { λ r. ⌜ wordAnswer r ≡ readOf (now (lengths .entry)) (now (rights .entry)) (now (bases .entry)) (now (words .entry)) domain depth frame p ⌝ }
+    ensures { λ r. ⌜ wordAnswer r ≡ readOf (now (lengths .entry)) (now (rights .entry)) (now (bases .entry)) (now (words .entry)) domain (registersOf (now (recent .entry))) depth frame p ⌝ }
 {
     match reference(
         lengths,
         rights,
         bases,
         domain,
+        recent,
         depth,
         frame,
         Access::Read,
@@ -69,19 +72,21 @@ pub fn write<'a>(
     bases: &'a [u32; 16],
     words: &mut [u32],
     domain: u8,
+    recent: &[u8; 160],
     depth: u8,
     frame: Frame,
     p: Pointer,
     value: u32,
 ) -> u8
-    ensures { λ r. ⌜ r ≡ verdictOf (now (lengths .entry)) (now (rights .entry)) domain depth frame access.Write p ⌝ }
-    ensures { λ r. ⌜ now (words .exit) ≡ writtenOf (now (lengths .entry)) (now (rights .entry)) (now (bases .entry)) (now (words .entry)) domain depth frame p value ⌝ }
+    ensures { λ r. ⌜ r ≡ verdictOf (now (lengths .entry)) (now (rights .entry)) domain (registersOf (now (recent .entry))) depth frame access.Write p ⌝ }
+    ensures { λ r. ⌜ now (words .exit) ≡ writtenOf (now (lengths .entry)) (now (rights .entry)) (now (bases .entry)) (now (words .entry)) domain (registersOf (now (recent .entry))) depth frame p value ⌝ }
 {
     match reference(
         lengths,
         rights,
         bases,
         domain,
+        recent,
         depth,
         frame,
         Access::Write,

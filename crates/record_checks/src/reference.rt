@@ -2,6 +2,7 @@
 ghost use mathlib.Core.Path.{_≡_};
 ghost use Rattle.references.specs.Reference.{indexAnswer};
 ghost use Rattle.record_checks.specs.Judged.{judgedCheck};
+use lent_registers::columns::spread;
 use references::flag::Access;
 use references::reference::IndexAnswer;
 use references::reference::reference;
@@ -22,11 +23,14 @@ pub fn check_reference(m: Machine, access: Access, p: Pointer) -> IndexAnswer
     let places = bases(&m.layout.lengths);
     let frames = m.frames;
     let frame = live_frame(frames, m.depth);
+    let held = m.recent;
+    let recent = spread(held);
     reference(
         &m.layout.lengths,
         &m.layout.rights,
         &places,
         m.registers.domain,
+        &recent,
         in_use(m.depth),
         frame,
         access,

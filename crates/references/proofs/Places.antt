@@ -67,4 +67,4 @@ pub check-lt : (m : Machine) (a : Access) (p : Pointer) (i : ℕ) → check m a 
 unfolding check referenceOf
 check-lt m a p i e =
     let t = accepted _ _ i e in
-    subst (λ (k : ℕ). k < wordsIn (m .layout .lengths)) (t .1) (index-lt _ (p .segment) (p .word) (verdict-exists _ _ _ _ _ a p (t .0)))
+    subst (λ (k : ℕ). k < wordsIn (m .layout .lengths)) (t .1) (index-lt _ (p .segment) (p .word) (verdict-exists _ _ _ _ _ _ a p (t .0)))

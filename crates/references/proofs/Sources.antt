@@ -4,18 +4,21 @@ use native.Mathlib.Omega.{arith}
 use mathlib.Core.Path.{_≡_, refl, sym, ap, _∙_}
 use mathlib.Core.Bool.{Bool, true, false, not}
 use mathlib.Core.List.{List, [], _∷_}
-use borrow.Author.Tests.{lt-ltb, le-ltb}
+use borrow.Author.Tests.{eq-eqb, ne-eqb, lt-ltb, le-ltb}
 use lib.Dec.{eqb}
 use Rattle.words.specs.Answer.{Answer, refuse, ok, _>>=_, if_then_else_}
 use Rattle.words.specs.Numbers.{noMatch, sourceFails}
 use Rattle.state.specs.declared.record.Capability.{Capability}
 use Rattle.state.specs.declared.record.Frame.{Frame}
+use Rattle.state.specs.declared.record.Register.{Register}
 use Rattle.capabilities.specs.Search.{coversOf, firstOf}
+use Rattle.recent.specs.Entering.{capabilitiesOf}
+use Rattle.recent.specs.Found.{Found, heldOf, noted, byHeld, foundOf}
 use Rattle.references.specs.declared.flag.Access.{Access}
 use Rattle.references.specs.Flag.{flagOf, isRead}
 use Rattle.references.specs.Static.{staticOf}
-use Rattle.references.specs.Live.{liveMatch, liveOf, passedOf, sourced}
-use Rattle.references.specs.Private.{codeAnswer}
+use Rattle.references.specs.Live.{liveMatch, liveOf, liveThrough, passedOf, sourced}
+use Rattle.references.specs.Private.{codeAnswer, foundSource}
 
 -- whether something was found
 abbrev found : Answer Capability → ℕ
@@ -47,6 +50,41 @@ live-passed lengths rights depth frame access segment word = go (liveMatch depth
     go : (a : Answer Capability) → sourced lengths rights access segment word a ≡ sourcedBy lengths rights access segment word (a >>= (λ c. ok (c .source)))
     go (refuse n) = refl
     go (ok c) = refl
+
+-- and so through the registers
+pub through-found : (lengths rights : List ℕ) (recent : List Register) (depth : ℕ) (frame : Frame) (access : Access) (segment word : ℕ) →
+    liveThrough lengths rights recent depth frame access segment word ≡ sourcedBy lengths rights access segment word (foundSource recent depth frame segment word (isRead access))
+unfolding liveThrough foundSource
+through-found lengths rights recent depth frame access segment word = go (foundOf recent depth frame (coversOf segment word 1 (isRead access) (not (isRead access))))
+  where
+    go : (a : Answer Found) → sourced lengths rights access segment word (a >>= (λ f. ok (f .capability))) ≡ sourcedBy lengths rights access segment word (a >>= (λ f. ok (f .capability .source)))
+    go (refuse n) = refl
+    go (ok f) = refl
+
+module _ (recent : List Register) (depth : ℕ) (frame : Frame) (segment word : ℕ) (read : Bool) where
+  abbrev fits : Capability → Bool
+  fits = coversOf segment word 1 read (not read)
+
+  pub found-none : depth ≡ 0 → foundSource recent depth frame segment word read ≡ refuse noMatch
+  unfolding foundSource foundOf
+  found-none e = rw (eq-eqb depth 0 e)
+
+  module _ (ne : depth ≡ 0 → ⊥) where
+    by-held : (a : Answer Register) → heldOf depth fits recent ≡ a
+        → foundSource recent depth frame segment word read ≡ (byHeld depth fits (capabilitiesOf frame) recent a >>= (λ f. ok (f .capability .source)))
+    unfolding foundSource foundOf
+    by-held a e = rw (ne-eqb depth 0 ne) (ap (λ (x : Answer Register). byHeld depth fits (capabilitiesOf frame) recent x >>= (λ f. ok (f .capability .source))) e)
+
+    pub found-held : (r : Register) → heldOf depth fits recent ≡ ok r → foundSource recent depth frame segment word read ≡ ok (r .capability .source)
+    found-held r e = by-held (ok r) e
+
+    pub found-searched : (n : ℕ) → heldOf depth fits recent ≡ refuse n → foundSource recent depth frame segment word read ≡ passedOf depth frame segment word 1 read (not read)
+    unfolding passedOf liveMatch
+    found-searched n e = by-held (refuse n) e ∙ rw (ne-eqb depth 0 ne) (go (firstOf fits (capabilitiesOf frame)))
+      where
+        go : (a : Answer Capability) → ((a >>= (λ c. ok (record { capability = c; registers = noted depth (capabilitiesOf frame) recent c }))) >>= (λ (f : Found). ok (f .capability .source))) ≡ (a >>= (λ c. ok (c .source)))
+        go (refuse k) = refl
+        go (ok c) = refl
 
 -- the number of a source, and of none
 pub code-source : (n : ℕ) → n < 256 → codeAnswer n ≡ ok n

@@ -17,4 +17,4 @@ staticCheck m domain flag segment word =
 -- the check of a reference by the executing domain, giving the index of the word in the memory
 unfoldable pub check : Machine → Access → Pointer → Answer ℕ
 check m access p =
-    referenceOf (m .layout .lengths) (m .layout .rights) (basesOf (m .layout .lengths)) (m .registers .domain) (inUse (m .depth)) (liveFrame (m .depth) (m .frames)) access p
+    referenceOf (m .layout .lengths) (m .layout .rights) (basesOf (m .layout .lengths)) (m .registers .domain) (m .recent) (inUse (m .depth)) (liveFrame (m .depth) (m .frames)) access p

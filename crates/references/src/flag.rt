@@ -1,6 +1,6 @@
 // Rights flags, and the two of them that a reference asks.
 ghost use mathlib.Core.Path.{_≡_};
-ghost use Rattle.references.specs.Flag.{has, flagOf};
+ghost use Rattle.references.specs.Flag.{has, flagOf, isRead};
 
 pub enum Flag {
     Read,
@@ -33,5 +33,15 @@ pub fn asked(access: Access) -> Flag
     match access {
         Access::Read => Flag::Read,
         Access::Write => Flag::Write,
+    }
+}
+
+// Whether an access reads.
+pub fn is_read(access: Access) -> bool
+    ensures { λ r. ⌜ r ≡ isRead access ⌝ }
+{
+    match access {
+        Access::Read => true,
+        Access::Write => false,
     }
 }

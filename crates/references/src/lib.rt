@@ -2,4 +2,5 @@
 pub mod flag;
 pub mod live;
 pub mod reference;
+pub mod renewal;
 pub mod statics;

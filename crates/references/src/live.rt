@@ -1,13 +1,15 @@
 // The live check (dynamic access validation), and arguments that are passed on.
 ghost use mathlib.Core.Path.{_≡_};
-ghost use Prim.Native.Nat.{_≤_};
-ghost use Rattle.references.specs.Live.{liveOf, passedOf, sourceAnswer};
-ghost use Rattle.references.specs.Flag.{isRead};
-ghost use Rattle.references.specs.Private.{codeAnswer};
+ghost use Prim.Native.Nat.{_<_, _≤_};
+ghost use Rattle.references.specs.Live.{liveThrough, passedOf, sourceAnswer};
+ghost use Rattle.references.specs.Private.{codeAnswer, foundSource};
+ghost use Rattle.lent_registers.specs.Columns.{registersOf};
 use crate::flag::Access;
 use crate::flag::asked;
+use crate::flag::is_read;
 use crate::statics::static_check;
 use capabilities::CapabilityAnswer;
+use lent_registers::lookup::held;
 use slice_search::search;
 use state::record::Frame;
 
@@ -15,15 +17,6 @@ use state::record::Frame;
 pub enum SourceAnswer {
     Source(u8),
     Refused(u8),
-}
-
-fn is_read(access: Access) -> bool
-    ensures { λ r. ⌜ r ≡ isRead access ⌝ }
-{
-    match access {
-        Access::Read => true,
-        Access::Write => false,
-    }
 }
 
 // The source of the first capability of the live frame that covers the words with the flags asked; 256 where none does or there is no frame.
@@ -57,20 +50,49 @@ fn source_of(
     }
 }
 
-// 0, or 24 where no capability of the live frame matches or there is no frame, or 25 where the first match's source fails its static check.
+fn wide(n: u8) -> u16
+    ensures { λ r. ⌜ (r ≡ n) × (r < 256) ⌝ }
+{
+    n as u16
+}
+
+// The source behind a reference to a word: of the lowest register that holds a match, else of the live frame's first match; 256 where there is none, or no frame.
+fn found_source(
+    recent: &[u8; 160],
+    depth: u8,
+    frame: Frame,
+    segment: u8,
+    word: u16,
+    read: bool,
+) -> u16
+    ensures { λ r. ⌜ codeAnswer r ≡ foundSource (registersOf (now (recent .entry))) depth frame segment word read ⌝ }
+    ensures { λ r. ⌜ r ≤ 256 ⌝ }
+{
+    if depth == 0 {
+        return 256;
+    }
+    let i = held(recent, depth, segment, word, read);
+    if i < 16 {
+        return wide(recent[48 + i]);
+    }
+    source_of(depth, frame, segment, word, 1, read, !read)
+}
+
+// 0, or 24 where no capability of the live frame matches or there is no frame, or 25 where the match's source fails its static check. Through the registers.
 pub fn live_check<'a>(
     lengths: &'a [u16; 16],
     rights: &'a [u8; 128],
+    recent: &[u8; 160],
     depth: u8,
     frame: Frame,
     access: Access,
     segment: u8,
     word: u16,
 ) -> u8
-    ensures { λ r. ⌜ r ≡ liveOf (now (lengths .entry)) (now (rights .entry)) depth frame access segment word ⌝ }
+    ensures { λ r. ⌜ r ≡ liveThrough (now (lengths .entry)) (now (rights .entry)) (registersOf (now (recent .entry))) depth frame access segment word ⌝ }
 {
     let read = is_read(access);
-    let source = source_of(depth, frame, segment, word, 1, read, !read);
+    let source = found_source(recent, depth, frame, segment, word, read);
     if 256 <= source {
         return 24;
     }

@@ -2,6 +2,7 @@
 ghost use mathlib.Core.Path.{_≡_};
 ghost use Prim.Native.Nat.{_+_};
 ghost use Rattle.references.specs.Reference.{verdictOf, locateOf, referenceOf, indexAnswer};
+ghost use Rattle.lent_registers.specs.Columns.{registersOf};
 use crate::flag::Access;
 use crate::flag::Flag;
 use crate::flag::asked;
@@ -21,15 +22,25 @@ pub fn verdict<'a>(
     lengths: &'a [u16; 16],
     rights: &'a [u8; 128],
     domain: u8,
+    recent: &[u8; 160],
     depth: u8,
     frame: Frame,
     access: Access,
     p: Pointer,
 ) -> u8
-    ensures { λ r. ⌜ r ≡ verdictOf (now (lengths .entry)) (now (rights .entry)) domain depth frame access p ⌝ }
+    ensures { λ r. ⌜ r ≡ verdictOf (now (lengths .entry)) (now (rights .entry)) domain (registersOf (now (recent .entry))) depth frame access p ⌝ }
 {
     if p.tag {
-        live_check(lengths, rights, depth, frame, access, p.segment, p.word)
+        live_check(
+            lengths,
+            rights,
+            recent,
+            depth,
+            frame,
+            access,
+            p.segment,
+            p.word,
+        )
     } else {
         static_check(lengths, rights, domain, asked(access), p.segment, p.word)
     }
@@ -67,14 +78,15 @@ pub fn reference<'a>(
     rights: &'a [u8; 128],
     bases: &'a [u32; 16],
     domain: u8,
+    recent: &[u8; 160],
     depth: u8,
     frame: Frame,
     access: Access,
     p: Pointer,
 ) -> IndexAnswer
-    ensures { λ r. ⌜ indexAnswer r ≡ referenceOf (now (lengths .entry)) (now (rights .entry)) (now (bases .entry)) domain depth frame access p ⌝ }
+    ensures { λ r. ⌜ indexAnswer r ≡ referenceOf (now (lengths .entry)) (now (rights .entry)) (now (bases .entry)) domain (registersOf (now (recent .entry))) depth frame access p ⌝ }
 {
-    let n = verdict(lengths, rights, domain, depth, frame, access, p);
+    let n = verdict(lengths, rights, domain, recent, depth, frame, access, p);
     if n != 0 {
         return IndexAnswer::Refused(n);
     }

@@ -1,3 +1,4 @@
+pub mod Lists
 pub mod Free
 pub mod Bounds
 pub mod Cycling

@@ -1,5 +1,6 @@
 // Runs: local runs and crossings by turns, up to an end or a limit.
 pub mod outcome;
+mod renewal;
 mod resume;
 mod running;
 

@@ -1,12 +1,16 @@
 // What a run comes to after a local run: it ends, or it goes on from a crossing.
 ghost use mathlib.Core.Path.{_≡_};
 ghost use Prim.Native.Nat.{_<_, _≤_, _-_};
-ghost use Rattle.runs.specs.Private.{crossedAnswer, resumeAnswer, resumeAfter, resumeOf, Countable};
+ghost use Rattle.lent_registers.specs.Columns.{registersOf};
+ghost use Rattle.runs.specs.Private.{crossedAnswer, resumeAnswer, resumeAfter, resumeOf, crossedRecent, Countable};
 use crate::outcome::End;
+use crate::renewal::renew_call;
+use crate::renewal::renew_return;
 use crossings::crossing::Crossed;
 use crossings::crossing::enter;
 use crossings::crossing::leave;
 use instructions::cycle::Event;
+use pointer_registers::pointer_at;
 use state::record::Frame;
 use state::record::Registers;
 use words::pointer::Pointer;
@@ -100,6 +104,7 @@ pub fn resume<'a>(
     gatedomains: &'a [u8; 16],
     stacks: &'a [u8; 8],
     words: &[u32],
+    recent: &[u8; 160],
     depth: u8,
     frame: Frame,
     r: Registers,
@@ -109,7 +114,7 @@ pub fn resume<'a>(
 ) -> Resumption
     requires { ⌜ Countable n event ⌝ }
     requires { ⌜ depth ≤ 8 ⌝ }
-    ensures { λ c. ⌜ resumeAnswer c ≡ resumeOf (now (lengths .entry)) (now (rights .entry)) (now (bases .entry)) (now (gatedomains .entry)) (now (stacks .entry)) (now (words .entry)) depth frame r pointers n event ⌝ }
+    ensures { λ c. ⌜ resumeAnswer c ≡ resumeOf (now (lengths .entry)) (now (rights .entry)) (now (bases .entry)) (now (gatedomains .entry)) (now (stacks .entry)) (now (words .entry)) (registersOf (now (recent .entry))) depth frame r pointers n event ⌝ }
 {
     match event {
         Event::Entering(p) => {
@@ -120,6 +125,7 @@ pub fn resume<'a>(
                 gatedomains,
                 stacks,
                 words,
+                recent,
                 depth,
                 frame,
                 r,
@@ -128,7 +134,7 @@ pub fn resume<'a>(
             );
             resume_crossed(c, r, pointers, n, depth, depth + 1)
         }
-        Event::Leaving(p) => {
+        Event::Leaving(p, q) => {
             let c = leave(lengths, rights, stacks, depth, frame, r, pointers, p);
             let less = below(depth);
             resume_crossed(c, r, pointers, n, less, less)
@@ -137,5 +143,31 @@ pub fn resume<'a>(
         Event::Pointed(i, p) => stop(frame, r, pointers, n, depth, End::Spent),
         Event::Halted => stop(frame, r, pointers, n + 1, depth, End::Halted),
         Event::Faulted(number) => stop(frame, r, pointers, n, depth, End::Faulted(number)),
+    }
+}
+
+// What the crossing at an event makes of the registers; made is the frame that a call made.
+pub fn renew_crossing(
+    recent: &mut [u8; 160],
+    depth: u8,
+    frame: Frame,
+    pointers: [Pointer; 8],
+    made: Frame,
+    event: Event,
+)
+    requires { ⌜ depth ≤ 8 ⌝ }
+    ensures { λ x. ⌜ registersOf (now (recent .exit)) ≡ crossedRecent (registersOf (now (recent .entry))) depth frame pointers made event ⌝ }
+{
+    match event {
+        Event::Entering(p) => {
+            renew_call(recent, depth, frame, pointer_at(pointers, 0), made);
+        }
+        Event::Leaving(p, q) => {
+            renew_return(recent, depth, frame, q);
+        }
+        Event::Moved => {}
+        Event::Pointed(i, p) => {}
+        Event::Halted => {}
+        Event::Faulted(n) => {}
     }
 }

@@ -4,13 +4,17 @@ ghost use Prim.Native.Nat.{_≤_};
 ghost use Rattle.runs.specs.Run.{runFrom, ranAnswer};
 use crate::outcome::End;
 use crate::outcome::Outcome;
+use crate::resume::renew_crossing;
 use crate::resume::resume;
+use lent_registers::columns::gathered;
+use lent_registers::columns::spread;
 use local_runs::run_local;
 use state::bases::bases;
 use state::frames::live_row;
 use state::record::Frame;
 use state::record::Layout;
 use state::record::Machine;
+use state::record::Register;
 use state::record::Registers;
 use words::pointer::Pointer;
 
@@ -20,17 +24,19 @@ fn outcome(
     registers: Registers,
     pointers: [Pointer; 8],
     frames: [Frame; 8],
+    recent: [Register; 16],
     depth: u8,
     count: u16,
     end: End,
 ) -> Outcome
-    ensures { λ o. ⌜ o ≡ record { machine = record { layout = layout; registers = registers; pointers = pointers; frames = frames; depth = depth }; count = count; end = end } ⌝ }
+    ensures { λ o. ⌜ o ≡ record { machine = record { layout = layout; registers = registers; pointers = pointers; frames = frames; recent = recent; depth = depth }; count = count; end = end } ⌝ }
 {
     let machine = Machine {
         layout,
         registers,
         pointers,
         frames,
+        recent,
         depth,
     };
     Outcome {
@@ -50,6 +56,8 @@ pub fn run_on(m: Machine, words: &mut [u32], limit: u16, stretch: bool) -> Outco
     let mut registers = m.registers;
     let mut pointers = m.pointers;
     let mut frames = m.frames;
+    let held = m.recent;
+    let mut recent = spread(held);
     let mut depth = m.depth;
     let mut n = 0u16;
     loop {
@@ -62,6 +70,7 @@ pub fn run_on(m: Machine, words: &mut [u32], limit: u16, stretch: bool) -> Outco
             &layout.stacks,
             &places,
             words,
+            &mut recent,
             depth,
             frame,
             n,
@@ -70,7 +79,7 @@ pub fn run_on(m: Machine, words: &mut [u32], limit: u16, stretch: bool) -> Outco
             pointers,
         );
         let moved = t.registers;
-        let held = t.pointers;
+        let paused = t.pointers;
         let event = t.event;
         let c = resume(
             &layout.lengths,
@@ -79,10 +88,11 @@ pub fn run_on(m: Machine, words: &mut [u32], limit: u16, stretch: bool) -> Outco
             &layout.gatedomains,
             &layout.stacks,
             words,
+            &recent,
             depth,
             frame,
             moved,
-            held,
+            paused,
             t.count,
             event,
         );
@@ -93,15 +103,27 @@ pub fn run_on(m: Machine, words: &mut [u32], limit: u16, stretch: bool) -> Outco
         match end {
             End::Crossed => {
                 let made = c.frame;
+                renew_crossing(&mut recent, depth, frame, paused, made, event);
                 let row = c.row as usize;
                 frames[row] = made;
                 depth = c.depth;
                 if stretch {
-                    return outcome(layout, registers, pointers, frames, depth, n, End::Crossed);
+                    let kept = gathered(&recent);
+                    return outcome(
+                        layout,
+                        registers,
+                        pointers,
+                        frames,
+                        kept,
+                        depth,
+                        n,
+                        End::Crossed,
+                    );
                 }
             }
             other => {
-                return outcome(layout, registers, pointers, frames, depth, n, other);
+                let kept = gathered(&recent);
+                return outcome(layout, registers, pointers, frames, kept, depth, n, other);
             }
         }
     }

@@ -23,7 +23,7 @@ returns : tie.Need-returns
 unfolding writtenOf
 returns c =
     let r = c .before .before .before in (
-      reference-refused _ _ _ _ _ _ _ _ _ (ap indexAnswer (sym (c .before .n .given .1)) ∙ r .reference .ensures),
+      reference-refused _ _ _ _ _ _ _ _ _ _ (ap indexAnswer (sym (c .before .n .given .1)) ∙ r .reference .ensures),
       simp (← r .reference .ensures, c .before .n .given .1),
     )
 
@@ -35,7 +35,7 @@ unfolding writtenOf
 returns-2 c =
     let k = c .before .before .before .before .before in
     let r = k .before .before in (
-      reference-passed _ _ _ _ _ _ _ _ _ (ap indexAnswer (sym (k .i .given .1)) ∙ r .reference .ensures),
+      reference-passed _ _ _ _ _ _ _ _ _ _ (ap indexAnswer (sym (k .i .given .1)) ∙ r .reference .ensures),
       simp (← r .reference .ensures, k .i .given .1) (c .before .before .put-at .ensures),
     )
 

@@ -5,6 +5,7 @@ use lib.ListN.{getD}
 use Rattle.words.specs.Answer.{Answer}
 use Rattle.state.specs.declared.record.Frame.{Frame}
 use Rattle.state.specs.Record.{noPointer}
+use Rattle.lent_registers.specs.Columns.{registersOf}
 use Rattle.memory.specs.Reader.{readOf}
 use Rattle.arguments.specs.ArgumentList.{frameOf, framedBy}
 use Rattle.crossings.proofs.Made.{made-refused, made-frame}
@@ -25,7 +26,7 @@ make-frame-requires c κs = search needs
 abbrev due : tie.After-make-frame → Answer Frame
 due c =
     let a = c .before .before .before .before .args in
-    frameOf (readOf (a .lengths .now) (a .rights .now) (a .bases .now) (a .words .now) (a .r .domain) (a .depth) (a .frame)) (getD (a .pointers) 0 noPointer) (getD (a .pointers) 1 noPointer) (a .r .domain) (a .depth) (a .frame)
+    frameOf (readOf (a .lengths .now) (a .rights .now) (a .bases .now) (a .words .now) (a .r .domain) (registersOf (a .recent .now)) (a .depth) (a .frame)) (getD (a .pointers) 0 noPointer) (getD (a .pointers) 1 noPointer) (a .r .domain) (a .depth) (a .frame)
 
 made : (c : tie.After-make-frame) → c .make-frame .result ≡ framedBy (c .before .before .before .before .args .frame) (due c)
 made c = rw (c .before .before .pointer-at .ensures, c .before .pointer-at2 .ensures) at (c .make-frame .ensures)

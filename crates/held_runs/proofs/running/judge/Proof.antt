@@ -1,12 +1,13 @@
 -- `held_runs::running::judge` meets its contract.
 use Prim.Native.Nat.{_-_}
+use mathlib.Core.Path.{sym}
 use borrow.Author.Needs.{needs}
 use lib.ListN.{getD}
 use Rattle.state.specs.Record.{noFrame}
 use Rattle.layout_soundness.proofs.Tests.{pass, stop, answered-true, answered-false}
 use Rattle.layout_soundness.proofs.All.{Left, none, more, fails, done}
 use Rattle.soundness.specs.Sound.{frameTest, soundTest}
-use Rattle.held_runs.proofs.JudgeLaws.{sound-by, judged-unsound, judged-short, judged-fit}
+use Rattle.held_runs.proofs.JudgeLaws.{frames-fail, sound-rest, judged-unsound, judged-short, judged-fit}
 use Rattle.held_runs.proofs.running.judge.Statement.{statement}
 use Rattle.held_runs.proofs.running.judge.Tie as tie
 
@@ -42,26 +43,34 @@ returns-4 c =
     let p = t .before .before in
     let r = p .before .before .before in
     let l = r .before .before .before in
-    judged-unsound _ _ (sound-by _ (answered-true (l .before .layout-sound .ensures) (l .if1 .left)) (answered-true (r .before .registers-sound .ensures) (r .if2 .left)) (answered-true (p .before .pointers-sound .ensures) (p .if3 .left)) (l .before .before .before .before .pre) (fails (t .before .loop .inv) (t .loop-test .taken) (s .frame-sound .ensures) (c .if4 .taken)))
+    judged-unsound _ _ (frames-fail _ (answered-true (l .before .layout-sound .ensures) (l .if1 .left)) (answered-true (r .before .registers-sound .ensures) (r .if2 .left)) (answered-true (p .before .pointers-sound .ensures) (p .if3 .left)) (l .before .before .before .before .pre) (fails (t .before .loop .inv) (t .loop-test .taken) (s .frame-sound .ensures) (c .if4 .taken)))
 
 loop-again : tie.Need-loop-again Inv-loop μ-loop
 loop-again c = let s = c .before in more (s .before .before .before .loop .inv) (s .before .before .loop-test .taken) (s .frame-sound .ensures) (c .if4 .left)
 
 returns-5 : tie.Need-returns-5 Inv-loop μ-loop
 returns-5 c =
-    let t = c .before in
+    let t = c .before .before .before .before in
     let p = t .before .before in
     let r = p .before .before .before in
     let l = r .before .before .before in
-    judged-short _ _ (sound-by _ (answered-true (l .before .layout-sound .ensures) (l .if1 .left)) (answered-true (r .before .registers-sound .ensures) (r .if2 .left)) (answered-true (p .before .pointers-sound .ensures) (p .if3 .left)) (l .before .before .before .before .pre) (done (t .before .loop .inv) (t .loop-test .left))) (c .if5 .taken)
+    judged-unsound _ _ (sound-rest _ (answered-true (l .before .layout-sound .ensures) (l .if1 .left)) (answered-true (r .before .registers-sound .ensures) (r .if2 .left)) (answered-true (p .before .pointers-sound .ensures) (p .if3 .left)) (l .before .before .before .before .pre) (done (t .before .loop .inv) (t .loop-test .left)) (sym (answered-false (c .before .registers-sound2 .ensures) (c .if5 .taken))))
 
 returns-6 : tie.Need-returns-6 Inv-loop μ-loop
 returns-6 c =
-    let t = c .before in
+    let t = c .before .before .before .before .before in
     let p = t .before .before in
     let r = p .before .before .before in
     let l = r .before .before .before in
-    judged-fit _ _ (sound-by _ (answered-true (l .before .layout-sound .ensures) (l .if1 .left)) (answered-true (r .before .registers-sound .ensures) (r .if2 .left)) (answered-true (p .before .pointers-sound .ensures) (p .if3 .left)) (l .before .before .before .before .pre) (done (t .before .loop .inv) (t .loop-test .left))) (c .if5 .left)
+    judged-short _ _ (sound-rest _ (answered-true (l .before .layout-sound .ensures) (l .if1 .left)) (answered-true (r .before .registers-sound .ensures) (r .if2 .left)) (answered-true (p .before .pointers-sound .ensures) (p .if3 .left)) (l .before .before .before .before .pre) (done (t .before .loop .inv) (t .loop-test .left)) (sym (answered-true (c .before .before .registers-sound2 .ensures) (c .before .if5 .left)))) (c .if6 .taken)
+
+returns-7 : tie.Need-returns-7 Inv-loop μ-loop
+returns-7 c =
+    let t = c .before .before .before .before .before in
+    let p = t .before .before in
+    let r = p .before .before .before in
+    let l = r .before .before .before in
+    judged-fit _ _ (sound-rest _ (answered-true (l .before .layout-sound .ensures) (l .if1 .left)) (answered-true (r .before .registers-sound .ensures) (r .if2 .left)) (answered-true (p .before .pointers-sound .ensures) (p .if3 .left)) (l .before .before .before .before .pre) (done (t .before .loop .inv) (t .loop-test .left)) (sym (answered-true (c .before .before .registers-sound2 .ensures) (c .before .if5 .left)))) (c .if6 .left)
 
 pub judge-spec : {M : Type 1} → statement M
 judge-spec =
@@ -84,5 +93,7 @@ judge-spec =
     (λ c. search needs)  -- add-i
     (λ c. search needs)  -- loop-less
     loop-again
+    (λ c κs. search needs)  -- registers-sound-requires-2
     returns-5
-    returns-6)
+    returns-6
+    returns-7)

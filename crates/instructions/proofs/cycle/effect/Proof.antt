@@ -3,9 +3,13 @@ use borrow.Author.Needs.{needs}
 use mathlib.Core.Bool.{false}
 use mathlib.Core.Path.{_≡_, refl, sym, ap, _∙_, subst}
 use borrow.Author.Tests.{eq-eqb, ne-eqb}
+use Rattle.lent_registers.specs.Columns.{registersOf}
+use Rattle.words.specs.Answer.{ok}
+use Rattle.words.specs.declared.pointer.Pointer.{Pointer}
 use Rattle.memory.specs.Reader.{readOf}
 use Rattle.instructions.specs.Instruction.{isLoad, isStore, effectOf}
-use Rattle.instructions.specs.Cycle.{Stays, cycleAnswer}
+use Rattle.instructions.specs.Made.{indirectPlace}
+use Rattle.instructions.specs.Cycle.{leaving, Stays, cycleAnswer}
 use Rattle.instructions.proofs.Cycles.{load-settles, jump-settles, call-settles}
 use Rattle.instructions.proofs.Jumps.{jumping, moving-on, leaving-by}
 use Rattle.instructions.proofs.cycle.effect.Statement.{statement}
@@ -25,7 +29,7 @@ unfolding effectOf
 returns c =
     let i = c .before .before in
     let a = i .before .before .before .args in
-    let s = load-settles (a .lengths .now) (a .gates .now) (a .rights .now) (a .stacks .now) (a .bases .now) (a .words .now) (a .depth) (a .frame) (a .r) (a .pointers) (readOf (a .lengths .now) (a .rights .now) (a .bases .now) (a .words .now) (a .r .domain) (a .depth) (a .frame)) (a .opcode) (a .p) in
+    let s = load-settles (a .lengths .now) (a .gates .now) (a .rights .now) (a .stacks .now) (a .bases .now) (a .words .now) (registersOf (a .recent .now)) (a .depth) (a .frame) (a .r) (a .pointers) (indirectPlace (a .pointers) (a .i)) (readOf (a .lengths .now) (a .rights .now) (a .bases .now) (a .words .now) (a .r .domain) (registersOf (a .recent .now)) (a .depth) (a .frame)) (a .i .opcode) (a .p) in
     simp (sym (i .before .is-load .ensures) ∙ i .if1 .taken) (c .load .ensures .0 (a .pointers) ∙ sym (s .there), (sym (s .words-stay), c .load .ensures .1))
 
 is-store-requires : tie.Need-is-store-requires
@@ -61,10 +65,10 @@ stay-requires : tie.Need-stay-requires
 stay-requires c κs = search needs
 
 -- where the opcode neither reads into A nor stores
-no-load : (e : tie.Else2) → isLoad (e .before .before .before .before .before .args .opcode) ≡ false
+no-load : (e : tie.Else2) → isLoad (e .before .before .before .before .before .args .i .opcode) ≡ false
 no-load e = sym (e .before .before .before .is-load .ensures) ∙ e .before .before .if1 .left
 
-no-store : (e : tie.Else2) → isStore (e .before .before .before .before .before .args .opcode) ≡ false
+no-store : (e : tie.Else2) → isStore (e .before .before .before .before .before .args .i .opcode) ≡ false
 no-store e = sym (e .before .is-store .ensures) ∙ e .if2 .left
 
 returns-3 : tie.Need-returns-3
@@ -74,8 +78,8 @@ returns-3 c =
     let j = k .before in
     let e = j .before .before in
     let a = e .before .before .before .before .before .args in
-    let s = jump-settles (a .lengths .now) (a .gates .now) (a .rights .now) (a .stacks .now) (a .bases .now) (a .words .now) (a .depth) (a .frame) (a .r) (a .pointers) (a .p) in
-    let d = jumping (a .lengths .now) (a .gates .now) (a .rights .now) (a .stacks .now) (a .depth) (a .r) (a .pointers) (readOf (a .lengths .now) (a .rights .now) (a .bases .now) (a .words .now) (a .r .domain) (a .depth) (a .frame)) (a .opcode) (a .register) (a .p) (no-load e) (no-store e) (sym (j .before .jumps .ensures) ∙ j .if3 .taken) in
+    let s = jump-settles (a .lengths .now) (a .gates .now) (a .rights .now) (a .stacks .now) (a .bases .now) (a .words .now) (registersOf (a .recent .now)) (a .depth) (a .frame) (a .r) (a .pointers) (indirectPlace (a .pointers) (a .i)) (a .p) in
+    let d = jumping (a .lengths .now) (a .gates .now) (a .rights .now) (a .stacks .now) (a .depth) (a .r) (a .pointers) (readOf (a .lengths .now) (a .rights .now) (a .bases .now) (a .words .now) (a .r .domain) (registersOf (a .recent .now)) (a .depth) (a .frame)) (a .i .opcode) (a .i .register) (a .p) (no-load e) (no-store e) (sym (j .before .jumps .ensures) ∙ j .if3 .taken) in
     rw d (ap (cycleAnswer (a .pointers)) (c .stay .ensures) ∙ simp (s .there, ← k .jump-check .ensures, ne-eqb _ _ (i .if4 .taken)), (sym (s .words-stay), subst (Stays _) (sym (c .stay .ensures)) refl))
 
 go-to-requires : tie.Need-go-to-requires
@@ -88,8 +92,8 @@ returns-4 c =
     let j = k .before in
     let e = j .before .before in
     let a = e .before .before .before .before .before .args in
-    let s = jump-settles (a .lengths .now) (a .gates .now) (a .rights .now) (a .stacks .now) (a .bases .now) (a .words .now) (a .depth) (a .frame) (a .r) (a .pointers) (a .p) in
-    let d = jumping (a .lengths .now) (a .gates .now) (a .rights .now) (a .stacks .now) (a .depth) (a .r) (a .pointers) (readOf (a .lengths .now) (a .rights .now) (a .bases .now) (a .words .now) (a .r .domain) (a .depth) (a .frame)) (a .opcode) (a .register) (a .p) (no-load e) (no-store e) (sym (j .before .jumps .ensures) ∙ j .if3 .taken) in
+    let s = jump-settles (a .lengths .now) (a .gates .now) (a .rights .now) (a .stacks .now) (a .bases .now) (a .words .now) (registersOf (a .recent .now)) (a .depth) (a .frame) (a .r) (a .pointers) (indirectPlace (a .pointers) (a .i)) (a .p) in
+    let d = jumping (a .lengths .now) (a .gates .now) (a .rights .now) (a .stacks .now) (a .depth) (a .r) (a .pointers) (readOf (a .lengths .now) (a .rights .now) (a .bases .now) (a .words .now) (a .r .domain) (registersOf (a .recent .now)) (a .depth) (a .frame)) (a .i .opcode) (a .i .register) (a .p) (no-load e) (no-store e) (sym (j .before .jumps .ensures) ∙ j .if3 .taken) in
     rw d (ap (cycleAnswer (a .pointers)) (c .go-to .ensures) ∙ simp (s .there, ← k .jump-check .ensures, eq-eqb _ _ (i .if4 .left)), (sym (s .words-stay), subst (Stays _) (sym (c .go-to .ensures)) tt))
 
 onward-requires : tie.Need-onward-requires
@@ -97,6 +101,9 @@ onward-requires c κs = search needs
 
 call-requires : tie.Need-call-requires
 call-requires c κs = search needs
+
+indirect-place-requires : tie.Need-indirect-place-requires
+indirect-place-requires c κs = search needs
 
 stay-requires-2 : tie.Need-stay-requires-2
 stay-requires-2 c κs = search needs
@@ -113,22 +120,23 @@ returns-5 c =
     simp (no-load e, no-store e) (rw (m .match .keys1) (ap (cycleAnswer (a .pointers)) (c .onward .ensures), (refl, subst (Stays _) (sym (c .onward .ensures)) tt)))
 
 returns-6 : tie.Need-returns-6
-unfolding effectOf
+unfolding effectOf indirectPlace
 returns-6 c =
     let m = c .before in
     let e = m .before .before .before in
     let a = e .before .before .before .before .before .args in
-    let s = call-settles (a .lengths .now) (a .gates .now) (a .rights .now) (a .stacks .now) (a .bases .now) (a .words .now) (a .depth) (a .frame) (a .r) (a .pointers) (a .p) in
+    let s = call-settles (a .lengths .now) (a .gates .now) (a .rights .now) (a .stacks .now) (a .bases .now) (a .words .now) (registersOf (a .recent .now)) (a .depth) (a .frame) (a .r) (a .pointers) (indirectPlace (a .pointers) (a .i)) (a .p) in
     simp (no-load e, no-store e) (rw (m .match .keys2) (c .call .ensures .0 (a .pointers) ∙ sym (s .there), (sym (s .words-stay), c .call .ensures .1)))
 
 returns-7 : tie.Need-returns-7
 returns-7 c =
-    let m = c .before in
+    let q = c .before in
+    let m = q .before in
     let j = m .before in
     let e = j .before .before in
     let a = e .before .before .before .before .before .args in
-    let d = leaving-by (a .lengths .now) (a .gates .now) (a .rights .now) (a .stacks .now) (a .depth) (a .r) (a .pointers) (readOf (a .lengths .now) (a .rights .now) (a .bases .now) (a .words .now) (a .r .domain) (a .depth) (a .frame)) (a .opcode) (a .register) (a .p) (no-load e) (no-store e) (sym (j .before .jumps .ensures) ∙ j .if3 .left) (m .match .keys3) in
-    rw d (ap (cycleAnswer (a .pointers)) (c .stay2 .ensures), (refl, subst (Stays _) (sym (c .stay2 .ensures)) refl))
+    let d = leaving-by (a .lengths .now) (a .gates .now) (a .rights .now) (a .stacks .now) (a .depth) (a .r) (a .pointers) (readOf (a .lengths .now) (a .rights .now) (a .bases .now) (a .words .now) (a .r .domain) (registersOf (a .recent .now)) (a .depth) (a .frame)) (a .i .opcode) (a .i .register) (a .p) (no-load e) (no-store e) (sym (j .before .jumps .ensures) ∙ j .if3 .left) (m .match .keys3) in
+    rw d (ap (cycleAnswer (a .pointers)) (c .stay2 .ensures) ∙ ap (λ (x : Pointer). ok (leaving (a .p) x)) (q .indirect-place .ensures), (refl, subst (Stays _) (sym (c .stay2 .ensures)) refl))
 
 returns-8 : tie.Need-returns-8
 returns-8 c =
@@ -137,7 +145,7 @@ returns-8 c =
     let e = j .before .before in
     let a = e .before .before .before .before .before .args in
     let n = m .match .rest in
-    let d = moving-on (a .lengths .now) (a .gates .now) (a .rights .now) (a .stacks .now) (a .depth) (a .r) (a .pointers) (readOf (a .lengths .now) (a .rights .now) (a .bases .now) (a .words .now) (a .r .domain) (a .depth) (a .frame)) (a .opcode) (a .register) (a .p) (no-load e) (no-store e) (sym (j .before .jumps .ensures) ∙ j .if3 .left) (ne-eqb _ _ (n .0 .0 .1)) (ne-eqb _ _ (n .0 .1)) (ne-eqb _ _ (n .1)) in
+    let d = moving-on (a .lengths .now) (a .gates .now) (a .rights .now) (a .stacks .now) (a .depth) (a .r) (a .pointers) (readOf (a .lengths .now) (a .rights .now) (a .bases .now) (a .words .now) (a .r .domain) (registersOf (a .recent .now)) (a .depth) (a .frame)) (a .i .opcode) (a .i .register) (a .p) (no-load e) (no-store e) (sym (j .before .jumps .ensures) ∙ j .if3 .left) (ne-eqb _ _ (n .0 .0 .1)) (ne-eqb _ _ (n .0 .1)) (ne-eqb _ _ (n .1)) in
     rw d (ap (cycleAnswer (a .pointers)) (c .onward2 .ensures), (refl, subst (Stays _) (sym (c .onward2 .ensures)) tt))
 
 pub effect-spec : {M : Type 1} → statement M
@@ -161,6 +169,7 @@ effect-spec =
     returns-4
     onward-requires
     call-requires
+    indirect-place-requires
     stay-requires-2
     onward-requires-2
     returns-5

@@ -1,12 +1,17 @@
 -- `instructions::cycle::perform` meets its contract.
 use borrow.Author.Needs.{needs}
-use mathlib.Core.Path.{_≡_, refl, sym, ap, subst}
+use mathlib.Core.Path.{_≡_, refl, sym, ap, _∙_, subst}
+use Rattle.words.specs.PointerWord.{pointerAnswer}
+use Rattle.lent_registers.specs.Columns.{registersOf}
 use borrow.Author.Tests.{eq-eqb, ne-eqb}
 use mir.Syntax.{w32}
 use mir.ValLaws.{toZ-ofZ}
 use Rattle.words.specs.Offset.{literalOf}
 use Rattle.instructions.specs.Instruction.{executeOf}
 use Rattle.instructions.specs.Cycle.{Stays, cycleAnswer}
+use Rattle.references.specs.Made.{renewedAll}
+use Rattle.instructions.specs.Made.{madeBy}
+use Rattle.instructions.proofs.Notes.{stay-recent, move-recent, effective-reached}
 use Rattle.instructions.proofs.cycle.perform.Statement.{statement}
 use Rattle.instructions.proofs.cycle.perform.Tie as tie
 
@@ -14,8 +19,8 @@ stay-requires : tie.Need-stay-requires
 stay-requires c κs = search needs
 
 returns : tie.Need-returns
-unfolding executeOf
-returns c = let i = c .before in simp (eq-eqb _ _ (i .if1 .taken)) (ap (cycleAnswer _) (c .stay .ensures), (refl, subst (Stays _) (sym (c .stay .ensures)) refl))
+unfolding executeOf madeBy renewedAll
+returns c = let i = c .before in simp (eq-eqb _ _ (i .if1 .taken)) (ap (cycleAnswer _) (c .stay .ensures), (refl, (subst (Stays _) (sym (c .stay .ensures)) refl, stay-recent _ _ _ _ _ _ (c .stay .ensures) refl)))
 
 literal-requires : tie.Need-literal-requires
 literal-requires c κs = search needs
@@ -28,11 +33,11 @@ told : (c : tie.After-literal) → c .literal .result ≡ literalOf (c .before .
 told c = rw (toZ-ofZ w32 _ (record { sfits = c .before .struct-told .given .0 .1 })) at (c .literal .ensures)
 
 returns-2 : tie.Need-returns-2
-unfolding executeOf
+unfolding executeOf madeBy renewedAll
 returns-2 c =
     let l = c .before in
     let i = l .before .before in
-    simp (ne-eqb _ _ (i .before .if1 .left), eq-eqb _ _ (i .if2 .taken)) (ap (cycleAnswer _) (rw (told l) at (c .onward .ensures)), (refl, subst (Stays _) (sym (c .onward .ensures)) tt))
+    simp (ne-eqb _ _ (i .before .if1 .left), eq-eqb _ _ (i .if2 .taken)) (ap (cycleAnswer _) (rw (told l) at (c .onward .ensures)), (refl, (subst (Stays _) (sym (c .onward .ensures)) tt, move-recent (registersOf (l .before .before .before .before .before .args .recent .now)) (l .before .before .before .before .before .args .pointers) (c .onward .result))))
 
 effective-requires : tie.Need-effective-requires
 effective-requires c κs = search needs
@@ -46,31 +51,33 @@ stay-requires-2 c κs = search needs
 enum-known-p : tie.Need-enum-known-p
 enum-known-p c = search needs
 
-effect-requires : tie.Need-effect-requires
-effect-requires c κs = search needs
+carry-out-requires : tie.Need-carry-out-requires
+carry-out-requires c κs =
+    let k = c .before .before .before in
+    (c .before .before .before .before .before .before .before .before .before .before .before .pre, effective-reached _ _ _ _ (sym (k .before .before .effective .ensures) ∙ ap pointerAnswer (k .p .given .1)))
 
 same-length : tie.Need-same-length
 same-length c = search needs
 
 returns-3 : tie.Need-returns-3
-unfolding executeOf
+unfolding executeOf madeBy renewedAll
 returns-3 c =
     let k = c .before .before in
     let e = k .before .before in
-    let i = e .before .before in
-    simp (ne-eqb _ _ (i .before .if1 .left), ne-eqb _ _ (i .if2 .left), ← e .effective .ensures, k .n .given .1) (ap (cycleAnswer _) (c .stay2 .ensures), (refl, subst (Stays _) (sym (c .stay2 .ensures)) refl))
+    let i = e .before .before .before in
+    simp (ne-eqb _ _ (i .before .if1 .left), ne-eqb _ _ (i .if2 .left), ← e .effective .ensures, k .n .given .1) (ap (cycleAnswer _) (c .stay2 .ensures), (refl, (subst (Stays _) (sym (c .stay2 .ensures)) refl, stay-recent _ _ _ _ _ _ (c .stay2 .ensures) refl)))
 
 same-length-2 : tie.Need-same-length-2
 same-length-2 c = search needs
 
 returns-4 : tie.Need-returns-4
-unfolding executeOf
+unfolding executeOf madeBy renewedAll
 returns-4 c =
     let f = c .before .before in
-    let k = f .before .before .before in
+    let k = f .before .before .before .before in
     let e = k .before .before in
-    let i = e .before .before in
-    simp (ne-eqb _ _ (i .before .if1 .left), ne-eqb _ _ (i .if2 .left), ← e .effective .ensures, k .p .given .1) (f .effect .ensures .0, (f .effect .ensures .1 .0, f .effect .ensures .1 .1))
+    let i = e .before .before .before in
+    simp (ne-eqb _ _ (i .before .if1 .left), ne-eqb _ _ (i .if2 .left), ← e .effective .ensures, k .p .given .1) (f .carry-out .ensures)
 
 pub perform-spec : {M : Type 1} → statement M
 perform-spec =
@@ -85,7 +92,7 @@ perform-spec =
     enum-known-n
     stay-requires-2
     enum-known-p
-    effect-requires
+    carry-out-requires
     same-length
     returns-3
     same-length-2

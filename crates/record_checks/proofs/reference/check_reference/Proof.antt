@@ -19,6 +19,9 @@ bases-requires c κs = search needs
 live-frame-requires : tie.Need-live-frame-requires
 live-frame-requires c κs = search needs
 
+spread-requires : tie.Need-spread-requires
+spread-requires c κs = search needs
+
 in-use-requires : tie.Need-in-use-requires
 in-use-requires c κs = search needs
 
@@ -29,11 +32,12 @@ returns-2 : tie.Need-returns-2
 unfolding judgedCheck check
 returns-2 c =
     let u = c .before in
-    let l = u .before .before .before .before .before in
+    let s = c .before .before .before .before .before .before .before in
+    let l = c .before .before .before .before .before .before .before .before .before in
     let b = l .before .before in
     let e = b .before .before .before in
     simp (answered-true (e .before .sound .ensures) (e .if1 .left))
-    (rw (b .bases .ensures, l .live-frame .ensures, u .in-use .ensures .0) at (c .reference .ensures))
+    (rw (b .bases .ensures, l .live-frame .ensures, s .spread .ensures, u .in-use .ensures .0) at (c .reference .ensures))
 
 pub check-reference-spec : {M : Type 1} → statement M
 check-reference-spec =
@@ -43,6 +47,7 @@ check-reference-spec =
     returns
     bases-requires
     live-frame-requires
+    spread-requires
     in-use-requires
     reference-requires
     returns-2)

@@ -21,7 +21,7 @@ mul-index : tie.Need-mul-index
 mul-index c = search needs
 
 element-copy-out-index : tie.Need-element-copy-out-index
-element-copy-out-index c = let e = c .before in exists-facts _ _ _ (verdict-exists _ _ _ _ _ _ (e .before .before .args .p) (sym (e .before .verdict .ensures) ∙ e .if1 .left)) .0
+element-copy-out-index c = let e = c .before in exists-facts _ _ _ (verdict-exists _ _ _ _ _ _ _ (e .before .before .args .p) (sym (e .before .verdict .ensures) ∙ e .if1 .left)) .0
 
 index-requires : tie.Need-index-requires
 index-requires c κs = search needs

@@ -7,6 +7,7 @@ use borrow.Author.Needs.{needs}
 use Rattle.words.specs.Answer.{Answer, refuse, ok}
 use Rattle.words.specs.declared.pointer.Pointer.{Pointer}
 use Rattle.state.specs.declared.record.Frame.{Frame}
+use Rattle.state.specs.declared.record.Register.{Register}
 use Rattle.state.specs.declared.record.Registers.{Registers}
 use Rattle.instructions.specs.declared.cycle.Event.{Event}
 use Rattle.crossings.specs.Parts.{Changes, crossedBy}
@@ -15,9 +16,9 @@ use Rattle.runs.proofs.resume.resume.Statement.{statement}
 use Rattle.runs.proofs.resume.resume.Tie as tie
 
 -- how a run resumes at an event that is known to be another
-told : (lengths rights bases gatedomains stacks words : List ℕ) (depth : ℕ) (frame : Frame) (r : Registers) (pointers : List Pointer) (n : ℕ) {e x : Event} → e ≡ x
-    → resumeOf lengths rights bases gatedomains stacks words depth frame r pointers n x ≡ resumeOf lengths rights bases gatedomains stacks words depth frame r pointers n e
-told lengths rights bases gatedomains stacks words depth frame r pointers n h = ap (resumeOf lengths rights bases gatedomains stacks words depth frame r pointers n) (sym h)
+told : (lengths rights bases gatedomains stacks words : List ℕ) (recent : List Register) (depth : ℕ) (frame : Frame) (r : Registers) (pointers : List Pointer) (n : ℕ) {e x : Event} → e ≡ x
+    → resumeOf lengths rights bases gatedomains stacks words recent depth frame r pointers n x ≡ resumeOf lengths rights bases gatedomains stacks words recent depth frame r pointers n e
+told lengths rights bases gatedomains stacks words recent depth frame r pointers n h = ap (resumeOf lengths rights bases gatedomains stacks words recent depth frame r pointers n) (sym h)
 
 -- what may be counted at an event that is known to be another
 counts : (n : ℕ) {e x : Event} → e ≡ x → Countable n e → Countable n x
@@ -83,25 +84,25 @@ stop-requires-4 c κs = search needs
 returns : tie.Need-returns
 returns c =
     let e = c .before in
-    c .resume-crossed .ensures ∙ ap (resumeAfter _ _ _ _ _) (ap crossedAnswer (e .enter .ensures) ∙ answers _ _ _ _) ∙ told _ _ _ _ _ _ _ _ _ _ _ (e .before .before .event .given .1)
+    c .resume-crossed .ensures ∙ ap (resumeAfter _ _ _ _ _) (ap crossedAnswer (e .enter .ensures) ∙ answers _ _ _ _) ∙ told _ _ _ _ _ _ _ _ _ _ _ _ (e .before .before .event .given .1)
 
 returns-2 : tie.Need-returns-2
 returns-2 c =
     let b = c .before in
     let e = b .before in
-    rw (b .below .ensures) at (c .resume-crossed2 .ensures) ∙ ap (resumeAfter _ _ _ _ _) (ap crossedAnswer (e .leave .ensures) ∙ answers _ _ _ _) ∙ told _ _ _ _ _ _ _ _ _ _ _ (e .before .before .event2 .given .1)
+    rw (b .below .ensures) at (c .resume-crossed2 .ensures) ∙ ap (resumeAfter _ _ _ _ _) (ap crossedAnswer (e .leave .ensures) ∙ answers _ _ _ _) ∙ told _ _ _ _ _ _ _ _ _ _ _ _ (e .before .before .event2 .given .1)
 
 returns-3 : tie.Need-returns-3
-returns-3 c = ap resumeAnswer (c .stop .ensures) ∙ told _ _ _ _ _ _ _ _ _ _ _ (c .before .enum-told .given .1)
+returns-3 c = ap resumeAnswer (c .stop .ensures) ∙ told _ _ _ _ _ _ _ _ _ _ _ _ (c .before .enum-told .given .1)
 
 returns-4 : tie.Need-returns-4
-returns-4 c = ap resumeAnswer (c .stop2 .ensures) ∙ told _ _ _ _ _ _ _ _ _ _ _ (c .before .before .event3 .given .1)
+returns-4 c = ap resumeAnswer (c .stop2 .ensures) ∙ told _ _ _ _ _ _ _ _ _ _ _ _ (c .before .before .event3 .given .1)
 
 returns-5 : tie.Need-returns-5
-returns-5 c = ap resumeAnswer (c .stop3 .ensures) ∙ told _ _ _ _ _ _ _ _ _ _ _ (c .before .enum-told2 .given .1)
+returns-5 c = ap resumeAnswer (c .stop3 .ensures) ∙ told _ _ _ _ _ _ _ _ _ _ _ _ (c .before .enum-told2 .given .1)
 
 returns-6 : tie.Need-returns-6
-returns-6 c = ap resumeAnswer (c .stop4 .ensures) ∙ told _ _ _ _ _ _ _ _ _ _ _ (c .before .before .event4 .given .1)
+returns-6 c = ap resumeAnswer (c .stop4 .ensures) ∙ told _ _ _ _ _ _ _ _ _ _ _ _ (c .before .before .event4 .given .1)
 
 pub resume-spec : {M : Type 1} → statement M
 resume-spec =

@@ -1,9 +1,9 @@
--- `instructions::cycle::is_load` meets its contract.
+-- `instructions::opcodes::is_load` meets its contract.
 use borrow.Author.Needs.{needs}
 use borrow.Author.Tests.{eq-eqb, ne-eqb}
 use Rattle.instructions.specs.Instruction.{isLoad}
-use Rattle.instructions.proofs.cycle.is_load.Statement.{statement}
-use Rattle.instructions.proofs.cycle.is_load.Tie as tie
+use Rattle.instructions.proofs.opcodes.is_load.Statement.{statement}
+use Rattle.instructions.proofs.opcodes.is_load.Tie as tie
 
 returns : tie.Need-returns
 unfolding isLoad

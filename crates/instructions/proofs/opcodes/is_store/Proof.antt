@@ -1,9 +1,9 @@
--- `instructions::cycle::is_store` meets its contract.
+-- `instructions::opcodes::is_store` meets its contract.
 use borrow.Author.Needs.{needs}
 use borrow.Author.Tests.{eq-eqb, ne-eqb}
 use Rattle.instructions.specs.Instruction.{isStore}
-use Rattle.instructions.proofs.cycle.is_store.Statement.{statement}
-use Rattle.instructions.proofs.cycle.is_store.Tie as tie
+use Rattle.instructions.proofs.opcodes.is_store.Statement.{statement}
+use Rattle.instructions.proofs.opcodes.is_store.Tie as tie
 
 returns : tie.Need-returns
 unfolding isStore
