@@ -18,7 +18,7 @@ use Rattle.executions.proofs.Sound.{step-sound}
 use Rattle.executions.proofs.Words.{step-length}
 use Rattle.executions.proofs.Numbers.{fault-number}
 use Rattle.executions.specs.Called.{afterStep, stepsCalled}
-use Rattle.executions.specs.Statements.{SoundRecord, Made, StepsStretch}
+use Rattle.executions.specs.Statements.{SoundRecord, indirectBy, Made, StepsStretch}
 
 -- only a crossing changes the number of frames in use
 abbrev Told : Machine → Completion → Machine → Type 0
@@ -29,7 +29,7 @@ Told m crossing n = n .depth ≡ m .depth → ⊥
 told : (m : Machine) (words : List ℕ) (e : Completion) (n : Machine) → Made m words e n → Told m e n
 told m words stopped n h = tt
 told m words proceeded n h = h .1
-told m words crossing n h = ⊎-elim (λ c q. omega (arith, q, call-facts m n words (c .gate) (c .made) .depth)) (λ r q. omega (arith, q, return-facts m n (r .back) (r .made) .depth)) h
+told m words crossing n h = ⊎-elim (λ c q. omega (arith, q, call-facts m n words (c .gate) (c .made) .depth)) (λ r q. omega (arith, q, return-facts m n (indirectBy m words) (r .back) (r .made) .depth)) h
 
 -- a call that is not refused
 call-accepted : (m : Machine) (words : List ℕ) → soundTest m ≡ true → 8192 ≤ length words → stepCall m words ≡ stepped m words (execute m words)

@@ -3,6 +3,7 @@ use Prim.Native.Nat.{ℕ, _+_}
 use native.Mathlib.Omega.{arith}
 use mathlib.Core.Bool.{Bool, true, false, not}
 use mathlib.Core.List.{List, [], _∷_}
+use mathlib.Core.Path.{_≡_, refl}
 use lib.Dec.{eqb, leb}
 use lib.IntN.{ℤ, pos, negsuc, _+ℤ_}
 use lib.ListN.{getD, take}
@@ -15,6 +16,7 @@ use Rattle.words.specs.ModeWord.{modeOf}
 use Rattle.words.specs.declared.pointer.Pointer.{Pointer}
 use Rattle.state.specs.declared.record.Capability.{Capability}
 use Rattle.state.specs.declared.record.Frame.{Frame}
+use Rattle.state.specs.declared.record.Register.{Register}
 use Rattle.state.specs.declared.record.Machine.{Machine}
 use Rattle.state.specs.Record.{inUse}
 use Rattle.state.specs.Bases.{basesOf}
@@ -25,9 +27,10 @@ use Rattle.references.specs.declared.flag.Access.the-variants as access
 use Rattle.references.specs.Flag.{has, flagOf, isRead}
 use Rattle.references.specs.Static.{exists, rightsOf, staticOf}
 use Rattle.capabilities.specs.Search.{firstOf, coversOf}
-use Rattle.references.specs.Live.{liveMatch, sourced, liveOf}
+use Rattle.references.specs.Live.{liveMatch, sourced, liveThrough}
 use Rattle.references.specs.Reference.{accept, indexOf, verdictOf, locateOf, referenceOf}
 use Rattle.references.specs.Check.{check}
+use Rattle.references.proofs.Passes.{found-refuses}
 use Rattle.memory.specs.Reader.{readOf, fetchOf, readWord, fetch}
 use Rattle.addressing.specs.Effective.{displacedBy}
 use Rattle.executions.proofs.Parts.{live}
@@ -48,32 +51,33 @@ pub match-fails : (depth : ℕ) (f : Frame) (fits : Capability → Bool) → Fai
 unfolding liveMatch
 match-fails depth f fits = fails-if (eqb depth 0) (refuse 24) _ (omega arith, omega arith) (first-fails fits (take (f .count) (f .capabilities)))
 
-live-judged : (lengths rights : List ℕ) (depth : ℕ) (f : Frame) (a : Access) (s w : ℕ) → Judged (liveOf lengths rights depth f a s w)
-unfolding liveOf
-live-judged lengths rights depth f a s w = by (liveMatch depth f (coversOf s w 1 (isRead a) (not (isRead a)))) (match-fails depth f (coversOf s w 1 (isRead a) (not (isRead a))))
+live-judged : (lengths rights : List ℕ) (rs : List Register) (depth : ℕ) (f : Frame) (a : Access) (s w : ℕ) → Judged (liveThrough lengths rights rs depth f a s w)
+unfolding liveThrough
+live-judged lengths rights rs depth f a s w = by _ (found-refuses rs depth f (coversOf s w 1 (isRead a) (not (isRead a))))
   where
-    by : (x : Answer Capability) → Fails x → Judged (sourced lengths rights a s w x)
-    by (refuse n) h = λ _. h
+    by : (x : Answer Capability) → ((n : ℕ) → x ≡ refuse n → n ≡ 24) → Judged (sourced lengths rights a s w x)
+    by (refuse n) h = λ _. (omega (arith, h n refl), omega (arith, h n refl))
     by (ok c) h = judged-if (eqb (staticOf lengths rights (c .source) (flagOf a) s w) 0) 0 25 passes (λ _. (omega arith, omega arith))
 
-verdict-judged : (lengths rights : List ℕ) (d depth : ℕ) (f : Frame) (a : Access) (p : Pointer) → Judged (verdictOf lengths rights d depth f a p)
-unfolding verdictOf
-verdict-judged lengths rights d depth f a p =
-    judged-if (p .tag) _ _ (live-judged lengths rights depth f a (p .segment) (p .word)) (static-judged lengths rights d (flagOf a) (p .segment) (p .word))
+module _ (lengths rights : List ℕ) (d : ℕ) (rs : List Register) (depth : ℕ) (f : Frame) (a : Access) (p : Pointer) where
+  verdict-judged : Judged (verdictOf lengths rights d rs depth f a p)
+  unfolding verdictOf
+  verdict-judged =
+      judged-if (p .tag) _ _ (live-judged lengths rights rs depth f a (p .segment) (p .word)) (static-judged lengths rights d (flagOf a) (p .segment) (p .word))
 
-reference-fails : (lengths rights bases : List ℕ) (d depth : ℕ) (f : Frame) (a : Access) (p : Pointer) → Fails (referenceOf lengths rights bases d depth f a p)
-unfolding referenceOf
-reference-fails lengths rights bases d depth f a p = fails-accept (verdictOf lengths rights d depth f a p) _ (verdict-judged lengths rights d depth f a p)
+  reference-fails : (bases : List ℕ) → Fails (referenceOf lengths rights bases d rs depth f a p)
+  unfolding referenceOf
+  reference-fails bases = fails-accept (verdictOf lengths rights d rs depth f a p) _ verdict-judged
 
 pub check-fails : (m : Machine) (a : Access) (p : Pointer) → Fails (check m a p)
 unfolding check
-check-fails m a p = reference-fails (m .layout .lengths) (m .layout .rights) (basesOf (m .layout .lengths)) (m .registers .domain) (inUse (m .depth)) (live m) a p
+check-fails m a p = reference-fails (m .layout .lengths) (m .layout .rights) (m .registers .domain) (m .recent) (inUse (m .depth)) (live m) a p (basesOf (m .layout .lengths))
 
 pub read-fails : (m : Machine) (words : List ℕ) (p : Pointer) → Fails (readWord m words p)
 unfolding readWord readOf
 read-fails m words p =
-    fails-bind (referenceOf (m .layout .lengths) (m .layout .rights) (basesOf (m .layout .lengths)) (m .registers .domain) (inUse (m .depth)) (live m) access.Read p) _
-    (reference-fails (m .layout .lengths) (m .layout .rights) (basesOf (m .layout .lengths)) (m .registers .domain) (inUse (m .depth)) (live m) access.Read p) (λ i. tt)
+    fails-bind (referenceOf (m .layout .lengths) (m .layout .rights) (basesOf (m .layout .lengths)) (m .registers .domain) (m .recent) (inUse (m .depth)) (live m) access.Read p) _
+    (reference-fails (m .layout .lengths) (m .layout .rights) (m .registers .domain) (m .recent) (inUse (m .depth)) (live m) access.Read p (basesOf (m .layout .lengths))) (λ i. tt)
 
 pub fetch-fails : (m : Machine) (words : List ℕ) → Fails (fetch m words)
 unfolding fetch fetchOf locateOf

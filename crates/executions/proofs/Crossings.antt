@@ -4,7 +4,7 @@ use native.Mathlib.Omega.{arith}
 use mathlib.Core.Bool.{Bool, true, false, _&&_}
 use mathlib.Core.List.{List}
 use mathlib.Core.Path.{_≡_, refl, _∙_}
-use borrow.Author.Tests.{ltb-true, leb-true, le-leb}
+use borrow.Author.Tests.{ltb-true, leb-true}
 use lib.Dec.{ltb, leb}
 use lib.ListN.{length, getD, set, length-set}
 use Rattle.words.specs.Answer.{if_then_else_}
@@ -25,7 +25,8 @@ use Rattle.crossings.specs.Crossing.{tagged, withTag, entered, left, samePlace,
 use Rattle.executions.proofs.Says.{Says, says-bind, says-accept}
 use Rattle.executions.proofs.Plans.{base-sound, exists-sound}
 use Rattle.executions.proofs.Arguments.{LiveSound}
-use Rattle.executions.proofs.Frames.{frame-sound}
+use Rattle.executions.proofs.Frames.{Framed, frame-sound}
+use Rattle.executions.proofs.RecentKept.{in-use, called-recent, left-recent}
 use Rattle.executions.proofs.Parts.{live, frameFor, leaveNumber}
 
 -- a sound machine with its eight rows of frames
@@ -67,16 +68,13 @@ module _ (m : Machine) (w : Whole m) where
   abbrev s : Sound m
   s = w .sound
 
-  in-use : inUse (m .depth) ≡ m .depth
-  in-use = simp (le-leb (m .depth) 8 (s .frames .most))
-
   live-sound : (1 ≤ m .depth) → FrameSound domains (live m)
-  live-sound some = rw in-use (s .frames .used (m .depth - 1) (omega arith))
+  live-sound some = rw (in-use (m .depth) (s .frames .most)) (s .frames .used (m .depth - 1) (omega arith))
 
   pub live-held : LiveSound domains (inUse (m .depth)) (live m)
-  live-held n = live-sound (omega (arith, n, in-use)) .used
+  live-held n = live-sound (omega (arith, n, in-use (m .depth) (s .frames .most))) .used
 
-  entered-whole : (p : Pointer) (f : Frame) → PointerSound p → m .depth < 8 → FrameSound domains f → Whole (entered m p f)
+  entered-whole : (p : Pointer) (f : Frame) → PointerSound p → m .depth < 8 → Framed domains f → Whole (entered m p f)
   unfolding entered
   entered-whole p f sp less sf =
       let d = ofSegment (m .layout .gatedomains) (p .segment) in
@@ -89,14 +87,18 @@ module _ (m : Machine) (w : Whole m) where
           gates = s .gates;
           registers = record { domain = gate-domain (m .layout) (s .layout) (p .segment); segment = sp .segment; word = omega (arith, sp .word) };
           pointers = base-sound (withTag (m .pointers)) _ on (stack-most (m .layout) (s .layout) d);
-          frames = frame-pushed domains (m .depth) (m .frames) (w .room) (s .frames) f less sf;
+          frames = frame-pushed domains (m .depth) (m .frames) (w .room) (s .frames) f less (sf .sound);
+          recent = called-recent (m .depth) (m .frames) (s .frames .most) (m .recent) (s .recent) (rw (w .room) less) (getD (m .pointers) 0 noPointer) f
+              (sf .sound .some) (rw (sf .room) (sf .sound .count));
         };
         room = length-set (m .frames) (m .depth) f ∙ w .room;
       }
 
-  left-whole : (p : Pointer) (f : Frame) → PointerSound p → 1 ≤ m .depth → FrameSound domains f → Whole (left m p f)
+  left-whole : (q p : Pointer) → PointerSound p → 1 ≤ m .depth → Whole (left m q p (live m))
   unfolding left
-  left-whole p f sp some sf =
+  left-whole q p sp some =
+      let f = live m in
+      let sf = live-sound some in
       record {
         sound = record {
           layout = s .layout;
@@ -104,6 +106,7 @@ module _ (m : Machine) (w : Whole m) where
           registers = record { domain = sf .domain; segment = sp .segment; word = omega (arith, sp .word) };
           pointers = base-sound (set (m .pointers) 1 (f .s)) _ (pointer-set (m .pointers) 1 (f .s) (s .pointers) (sf .s)) (stack-most (m .layout) (s .layout) (f .domain));
           frames = frame-popped domains (m .depth) (m .frames) (w .room) (s .frames) freeFrame some free-frame;
+          recent = left-recent (m .depth) (m .frames) (s .frames .most) (m .recent) (s .recent) some freeFrame q;
         };
         room = length-set (m .frames) (m .depth - 1) freeFrame ∙ w .room;
       }
@@ -111,17 +114,17 @@ module _ (m : Machine) (w : Whole m) where
   pub enter-whole : (read : Reader) (p : Pointer) → PointerSound p → m .depth < 8 → Says Whole (enterOf m read p)
   unfolding enterOf
   enter-whole read p sp less =
-      says-bind (FrameSound domains) Whole (frameFor m read) _
+      says-bind (Framed domains) Whole (frameFor m read) _
       (frame-sound read (getD (m .pointers) 0 noPointer) domains (m .registers .domain) (inUse (m .depth)) (live m) (s .registers .domain) live-held
       (getD (m .pointers) 1 noPointer) (s .pointers 1 (omega arith)) (s .pointers 0 (omega arith) .segment))
       (λ f sf. entered-whole p f sp less sf)
 
-  pub leave-whole : (p : Pointer) → Says Whole (leaveOf m p)
+  pub leave-whole : (q p : Pointer) → Says Whole (leaveOf m q p)
   unfolding leaveOf
-  leave-whole p = says-accept Whole (leaveNumber m p) (left m p (live m)) back
+  leave-whole q p = says-accept Whole (leaveNumber m p) (left m q p (live m)) back
     where
-      back : leaveNumber m p ≡ 0 → Whole (left m p (live m))
+      back : leaveNumber m p ≡ 0 → Whole (left m q p (live m))
       back e =
           let f = leave-facts (m .layout .lengths) (m .layout .rights) (inUse (m .depth)) (live m) (getD (m .pointers) 1 noPointer) p e in
-          let some : 1 ≤ m .depth = omega (arith, f .0, in-use) in
-          left-whole p (live m) (exists-sound (m .layout .lengths) p (s .layout .lengths) (f .1)) some (live-sound some)
+          let some : 1 ≤ m .depth = omega (arith, f .0, in-use (m .depth) (s .frames .most)) in
+          left-whole q p (exists-sound (m .layout .lengths) p (s .layout .lengths) (f .1)) some

@@ -2,8 +2,9 @@
 use Prim.Native.Nat.{ℕ, zero, suc, _+_, _*_, _<_, _≤_}
 use native.Mathlib.Omega.{arith}
 use mathlib.Core.List.{List}
-use mathlib.Core.Path.{refl, sym, subst}
+use mathlib.Core.Path.{_≡_, refl, sym, subst}
 use lib.IntN.{pos}
+use lib.ListN.{length}
 use Rattle.words.specs.Answer.{Answer, refuse, ok}
 use Rattle.words.specs.PointerWord.{pointerOf}
 use Rattle.words.specs.declared.pointer.Pointer.{Pointer}
@@ -17,6 +18,11 @@ use Rattle.executions.proofs.Says.{Says, said, says-bind, says-then, sa
 use Rattle.executions.proofs.Pointers.{word-pointer, moved-most}
 use Rattle.executions.proofs.Arguments.{LiveSound, source-sound, capability-sound}
 use Rattle.executions.proofs.FrameParts.{Rows, row-added, Parts, frame-parts, parts-held}
+
+-- a sound frame with its nine rows
+pub record Framed (domains : ℕ) (f : Frame) : Type 0 where
+  pub sound : FrameSound domains f
+  pub room : length (f .capabilities) ≡ 9
 
 module _ (read : Reader) (a : Pointer) where
   -- word k of the list is word 4,095 at the latest
@@ -55,7 +61,7 @@ module _ (read : Reader) (a : Pointer) where
     within (suc n) rows three r = omega (arith, r .used n (omega arith) .within)
 
     module _ (s : Pointer) (ss : PointerSound s) (on : a .segment ≤ 15) where
-      parts-sound : (f : Frame) → Parts read a s caller depth live f → FrameSound domains f
+      parts-sound : (f : Frame) → Parts read a s caller depth live f → Framed domains f
       parts-sound f p =
           let n = p .arguments in
           let each = parts-held read a s caller depth live Argument argument-sound f p in
@@ -66,18 +72,21 @@ module _ (read : Reader) (a : Pointer) where
           let arguments : Rows (λ j c. CapabilitySound domains c) n (p .rows) =
           record { room = each .room; used = λ j h. each .used j h .sound; unused = each .unused } in
           let all = row-added (λ j c. CapabilitySound domains c) n (p .rows) (listCapability a (p .source) n) (omega (arith, p .few)) list arguments in
-          subst (FrameSound domains) (sym (p .made))
+          subst (Framed domains) (sym (p .made))
           (record {
-            some = omega arith;
-            count = omega (arith, p .few);
-            domain = known;
-            s = ss;
-            back = said PointerSound _ (p .back) (list-pointer 1) (p .recorded);
-            untagged = p .untagged;
-            used = all .used;
-            unused = all .unused;
+            sound = record {
+              some = omega arith;
+              count = omega (arith, p .few);
+              domain = known;
+              s = ss;
+              back = said PointerSound _ (p .back) (list-pointer 1) (p .recorded);
+              untagged = p .untagged;
+              used = all .used;
+              unused = all .unused;
+            };
+            room = all .room;
           })
 
-      pub frame-sound : Says (FrameSound domains) (frameOf read a s caller depth live)
+      pub frame-sound : Says (Framed domains) (frameOf read a s caller depth live)
       frame-sound =
-          says-weaker (Parts read a s caller depth live) (FrameSound domains) (frameOf read a s caller depth live) (frame-parts read a s caller depth live) parts-sound
+          says-weaker (Parts read a s caller depth live) (Framed domains) (frameOf read a s caller depth live) (frame-parts read a s caller depth live) parts-sound

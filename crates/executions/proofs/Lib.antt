@@ -10,6 +10,9 @@ pub mod Plans
 pub mod Arguments
 pub mod FrameParts
 pub mod Frames
+pub mod RecentKept
+pub mod Fit
+pub mod Through
 pub mod Crossings
 pub mod Sound
 pub mod Fails

@@ -21,7 +21,7 @@ use Rattle.executions.proofs.Parts.{live, frameFor, leaveNumber}
 use Rattle.executions.proofs.Says.{Says, said, itself, says-weaker, says-bind, says-then, says-accept}
 use Rattle.executions.proofs.Acts.{CrossesTo, decide-crosses}
 use Rattle.executions.proofs.Crossings.{leave-facts}
-use Rattle.executions.specs.Statements.{plannedBy, Made, StepMade}
+use Rattle.executions.specs.Statements.{plannedBy, indirectBy, Made, StepMade}
 
 module _ (m : Machine) (words : List ℕ) where
   abbrev MadeBy : Done → Type 0
@@ -31,14 +31,15 @@ module _ (m : Machine) (words : List ℕ) where
   enter-made p a =
       says-weaker _ (Made m words crossing) (enterOf m (readWord m words) p) (itself (enterOf m (readWord m words) p)) (λ n e. inl (record { gate = p; asked = a; made = e }))
 
-  leave-made : (p : Pointer) → plannedBy m words ≡ ok (leave p) → Says (Made m words crossing) (leaveOf m p)
-  leave-made p a = says-weaker _ (Made m words crossing) (leaveOf m p) (itself (leaveOf m p)) (λ n e. inr (record { back = p; asked = a; made = e }))
+  leave-made : (p : Pointer) → plannedBy m words ≡ ok (leave p) → Says (Made m words crossing) (leaveOf m (indirectBy m words) p)
+  leave-made p a =
+      says-weaker _ (Made m words crossing) (leaveOf m (indirectBy m words) p) (itself (leaveOf m (indirectBy m words) p)) (λ n e. inr (record { back = p; asked = a; made = e }))
 
   commit-made : (a : Act) → CrossesTo (Made m words crossing) a → Says MadeBy (commit m words a)
   unfolding commit
   commit-made stop h = refl
-  commit-made (proceed a s w ps) h = (refl, refl)
-  commit-made (put p v) h = says-then MadeBy (check m access.Write p) _ (λ i. (refl, refl))
+  commit-made (proceed a s w ps rs) h = (refl, refl)
+  commit-made (put p v rs) h = says-then MadeBy (check m access.Write p) _ (λ i. (refl, refl))
   commit-made (cross n) h = h
 
 pub step-made : StepMade
@@ -71,8 +72,8 @@ some-frame m p z = by (leb (m .depth) 8) (leave-facts (m .layout .lengths) (m .l
     by true h = h
     by false h = absurd (omega (arith, h))
 
-pub return-facts : (m n : Machine) (back : Pointer) → leaveOf m back ≡ ok n → Returning m back n
+pub return-facts : (m n : Machine) (q back : Pointer) → leaveOf m q back ≡ ok n → Returning m back n
 unfolding leaveOf left
-return-facts m n back e =
+return-facts m n q back e =
     said (Returning m back) _ n
-    (says-accept (Returning m back) (leaveNumber m back) (left m back (live m)) (λ z. record { registers = refl; depth = omega (arith, some-frame m back z) })) e
+    (says-accept (Returning m back) (leaveNumber m back) (left m q back (live m)) (λ z. record { registers = refl; depth = omega (arith, some-frame m back z) })) e

@@ -9,6 +9,7 @@ use lib.Dec.{eqb, leb}
 use lib.ListN.{getD}
 use Rattle.words.specs.Answer.{refuse, ok, if_then_else_}
 use Rattle.words.specs.declared.pointer.Pointer.{Pointer}
+use Rattle.state.specs.declared.record.Register.{Register}
 use Rattle.state.specs.declared.record.Machine.{Machine}
 use Rattle.state.specs.Record.{noPointer, inUse}
 use Rattle.references.specs.declared.flag.Flag.the-variants as flag
@@ -38,32 +39,32 @@ module _ (m : Machine) (words : List ℕ) where
       fails-bind (frameFor m reader) _
       (frame-fails reader (read-fails m words) (getD (m .pointers) 0 noPointer) (m .registers .domain) (inUse (m .depth)) (live m) (getD (m .pointers) 1 noPointer)) (λ f. tt)
 
-  leave-fails : (p : Pointer) → Fails (leaveOf m p)
+  leave-fails : (q p : Pointer) → Fails (leaveOf m q p)
   unfolding leaveOf leaveCheck
-  leave-fails p =
-      fails-accept (leaveNumber m p) (left m p (live m))
+  leave-fails q p =
+      fails-accept (leaveNumber m p) (left m q p (live m))
       (judged-if (leb 1 (inUse (m .depth)) && (samePlace p (live m .back) && samePlace (getD (m .pointers) 1 noPointer) (live m .s))) _ 32
       (static-judged (m .layout .lengths) (m .layout .rights) (live m .domain) flag.Execute (p .segment) (p .word)) (λ _. (omega arith, omega arith)))
 
-  resolve-fails : (plan : Plan) → Fails (resolve m reader plan)
-  resolve-fails halt = tt
-  resolve-fails (move a s w ps) = tt
-  resolve-fails (store p v) = tt
-  resolve-fails (enter p) = fails-bind (enterOf m reader p) (λ n. ok (cross n)) (enter-fails p) (λ n. tt)
-  resolve-fails (leave p) = fails-bind (leaveOf m p) (λ n. ok (cross n)) (leave-fails p) (λ n. tt)
+  resolve-fails : (rs : List Register) (q : Pointer) (plan : Plan) → Fails (resolve m reader rs q plan)
+  resolve-fails rs q halt = tt
+  resolve-fails rs q (move a s w ps) = tt
+  resolve-fails rs q (store p v) = tt
+  resolve-fails rs q (enter p) = fails-bind (enterOf m reader p) (λ n. ok (cross n)) (enter-fails p) (λ n. tt)
+  resolve-fails rs q (leave p) = fails-bind (leaveOf m q p) (λ n. ok (cross n)) (leave-fails q p) (λ n. tt)
 
   decide-fails : Fails (decide m (fetch m words) reader)
   unfolding decide
   decide-fails =
-      fails-bind (planned m (fetch m words) reader) (resolve m reader)
+      fails-bind (planned m (fetch m words) reader) _
       (plan-fails reader (read-fails m words) (m .layout .lengths) (m .layout .gates) (m .layout .rights) (m .layout .stacks) (m .depth) (m .registers) (m .pointers) (fetch m words) (fetch-fails m words))
-      resolve-fails
+      (resolve-fails _ _)
 
   commit-fails : (act : Act) → Fails (commit m words act)
   unfolding commit
   commit-fails stop = tt
-  commit-fails (proceed a s w ps) = tt
-  commit-fails (put p v) = fails-bind (check m access.Write p) _ (check-fails m access.Write p) (λ i. tt)
+  commit-fails (proceed a s w ps rs) = tt
+  commit-fails (put p v rs) = fails-bind (check m access.Write p) _ (check-fails m access.Write p) (λ i. tt)
   commit-fails (cross n) = tt
 
 pub fault-number : FaultNumber

@@ -3,8 +3,10 @@ use Prim.Native.Nat.{ℕ, _+_}
 use native.Mathlib.Omega.{arith}
 use mathlib.Core.List.{List}
 use mathlib.Core.Path.{_≡_}
-use Rattle.words.specs.Answer.{ok}
+use Rattle.words.specs.Answer.{ok, _>>=_}
+use Rattle.words.specs.InstructionWord.{instructionOf}
 use Rattle.words.specs.declared.pointer.Pointer.{Pointer}
+use Rattle.state.specs.declared.record.Register.{Register}
 use Rattle.state.specs.declared.record.Machine.{Machine}
 use Rattle.state.specs.Bases.{basesOf}
 use Rattle.soundness.proofs.Facts.{Sound, sound-facts, facts-sound}
@@ -17,12 +19,14 @@ use Rattle.references.proofs.Passes.{static-exists, exists-facts}
 use Rattle.memory.specs.Reader.{Reader, readWord, fetch, fetchOf}
 use Rattle.instructions.specs.Plan.{Plan, halt, move, store, enter, leave}
 use Rattle.crossings.specs.Crossing.{enterOf, leaveOf}
-use Rattle.runs.specs.Step.{Act, stop, proceed, put, cross, Done, movedTo, resolve, decide, commit, execute}
+use Rattle.runs.specs.Step.{Act, stop, proceed, put, cross, Done, movedTo, resolve, recentAfter, decide, commit, execute}
 use Rattle.executions.proofs.Says.{Says, said, says-bind, says-then, says-accept}
 use Rattle.executions.proofs.Runs.{run-keeps}
 use Rattle.executions.proofs.Plans.{Placed, PlanSound, plan-sound}
+use Rattle.executions.proofs.RecentKept.{after-recent}
+use Rattle.executions.proofs.Fit.{Fits}
 use Rattle.executions.proofs.Crossings.{Whole, stack-most, enter-whole, leave-whole}
-use Rattle.executions.specs.Statements.{SoundRecord, StepSound, RunSound, plannedBy}
+use Rattle.executions.specs.Statements.{SoundRecord, StepSound, RunSound, plannedBy, indirectBy}
 
 module _ (m : Machine) (w : Whole m) where
   abbrev s : Sound m
@@ -52,8 +56,8 @@ module _ (m : Machine) (w : Whole m) where
           record { segment = s .registers .segment; word = omega (arith, f .1, s .layout .lengths r-segment (f .0)); pointers = s .pointers }
 
   -- the record moved on to a place
-  moved-whole : (a segment word : ℕ) (ps : List Pointer) → Placed segment word ps → Whole (movedTo m a segment word ps)
-  moved-whole a segment word ps p =
+  moved-whole : (a segment word : ℕ) (ps : List Pointer) (rs : List Register) → Placed segment word ps → Fits m rs → Whole (movedTo m a segment word ps rs)
+  moved-whole a segment word ps rs p t =
       record {
         sound = record {
           layout = s .layout;
@@ -61,25 +65,26 @@ module _ (m : Machine) (w : Whole m) where
           registers = record { domain = s .registers .domain; segment = p .segment; word = p .word };
           pointers = p .pointers;
           frames = s .frames;
+          recent = t;
         };
         room = w .room;
       }
 
   abbrev ActSound : Act → Type 0
   ActSound stop = Unit {0}
-  ActSound (proceed a segment word ps) = Placed segment word ps
-  ActSound (put p v) = On
+  ActSound (proceed a segment word ps rs) = Placed segment word ps × Fits m rs
+  ActSound (put p v rs) = On × Fits m rs
   ActSound (cross n) = Whole n
 
   abbrev pub Planned : Plan → Type 0
   Planned = PlanSound (m .layout .lengths) (m .layout .gates) (m .layout .rights) (m .layout .stacks) (m .depth) (m .registers) (m .pointers)
 
-  resolve-sound : (read : Reader) (plan : Plan) → Planned plan → Says ActSound (resolve m read plan)
-  resolve-sound read halt h = tt
-  resolve-sound read (move a segment word ps) h = h
-  resolve-sound read (store p v) h = h
-  resolve-sound read (enter p) h = says-bind Whole ActSound (enterOf m read p) (λ n. ok (cross n)) (enter-whole m w read p (h .sound) (h .free)) (λ n x. x)
-  resolve-sound read (leave p) h = says-bind Whole ActSound (leaveOf m p) (λ n. ok (cross n)) (leave-whole m w p) (λ n x. x)
+  resolve-sound : (read : Reader) (rs : List Register) (q : Pointer) → Fits m rs → (plan : Plan) → Planned plan → Says ActSound (resolve m read rs q plan)
+  resolve-sound read rs q t halt h = tt
+  resolve-sound read rs q t (move a segment word ps) h = (h, t)
+  resolve-sound read rs q t (store p v) h = (h, t)
+  resolve-sound read rs q t (enter p) h = says-bind Whole ActSound (enterOf m read p) (λ n. ok (cross n)) (enter-whole m w read p (h .sound) (h .free)) (λ n x. x)
+  resolve-sound read rs q t (leave p) h = says-bind Whole ActSound (leaveOf m q p) (λ n. ok (cross n)) (leave-whole m w q p) (λ n x. x)
 
   pub planned-sound : (words : List ℕ) → Says Planned (plannedBy m words)
   planned-sound words =
@@ -88,7 +93,10 @@ module _ (m : Machine) (w : Whole m) where
 
   decide-sound : (words : List ℕ) → Says ActSound (decide m (fetch m words) (readWord m words))
   unfolding decide
-  decide-sound words = says-bind Planned ActSound (plannedBy m words) (resolve m (readWord m words)) (planned-sound words) (resolve-sound (readWord m words))
+  decide-sound words =
+      let i = fetch m words >>= instructionOf in
+      says-bind Planned ActSound (plannedBy m words) (resolve m (readWord m words) (recentAfter m (readWord m words) i) (indirectBy m words)) (planned-sound words)
+      (resolve-sound (readWord m words) _ _ (after-recent m (s .frames .most) (s .recent) (readWord m words) i))
 
   abbrev WholeDone : Done → Type 0
   WholeDone d = Whole (d .machine)
@@ -96,8 +104,9 @@ module _ (m : Machine) (w : Whole m) where
   commit-sound : (words : List ℕ) (a : Act) → ActSound a → Says WholeDone (commit m words a)
   unfolding commit
   commit-sound words stop h = w
-  commit-sound words (proceed a segment word ps) h = moved-whole a segment word ps h
-  commit-sound words (put p v) h = says-then WholeDone (check m access.Write p) _ (λ i. moved-whole (m .registers .a) r-segment (r-word + 1) (m .pointers) h)
+  commit-sound words (proceed a segment word ps rs) h = moved-whole a segment word ps rs (h .0) (h .1)
+  commit-sound words (put p v rs) h =
+      says-then WholeDone (check m access.Write p) _ (λ i. moved-whole (m .registers .a) r-segment (r-word + 1) (m .pointers) rs (h .0) (h .1))
   commit-sound words (cross n) h = h
 
   step-whole : (words : List ℕ) (d : Done) → execute m words ≡ ok d → Whole (d .machine)

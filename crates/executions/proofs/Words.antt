@@ -39,9 +39,9 @@ module _ (m : Machine) where
   unfolding enterOf entered
   enter-same read p = says-then Same (frameFor m read) (λ f. ok (entered m p f)) (λ f. refl)
 
-  leave-same : (p : Pointer) → Says Same (leaveOf m p)
+  leave-same : (q p : Pointer) → Says Same (leaveOf m q p)
   unfolding leaveOf left
-  leave-same p = says-accept Same (leaveNumber m p) (left m p (live m)) (λ _. refl)
+  leave-same q p = says-accept Same (leaveNumber m p) (left m q p (live m)) (λ _. refl)
 
 -- a step from a record and words that came of a start
 module _ (l : Layout) (words : List ℕ) (m : Machine) (now : List ℕ) (h : Came l words m now) where
@@ -63,8 +63,8 @@ module _ (l : Layout) (words : List ℕ) (m : Machine) (now : List ℕ) (h : Cam
   commit-came : (a : Act) → CrossesTo (Same m) a → Says CameBy (commit m now a)
   unfolding commit
   commit-came stop s = h
-  commit-came (proceed a s w ps) _ = record { layout = h .layout; room = h .room; past = h .past }
-  commit-came (put p v) _ =
+  commit-came (proceed a s w ps rs) _ = record { layout = h .layout; room = h .room; past = h .past }
+  commit-came (put p v rs) _ =
       says-bind (λ i. check m access.Write p ≡ ok i) CameBy (check m access.Write p) _ (itself (check m access.Write p))
       (λ i e. stored-came _ refl p v i e)
   commit-came (cross n) s = record { layout = s ∙ h .layout; room = h .room; past = h .past }
@@ -74,7 +74,7 @@ module _ (l : Layout) (words : List ℕ) (m : Machine) (now : List ℕ) (h : Cam
   step-came d e =
       said CameBy _ d
       (says-bind (CrossesTo (Same m)) CameBy (decide m (fetch m now) (readWord m now)) (commit m now)
-      (decide-crosses m (Same m) (fetch m now) (readWord m now) (λ p e. enter-same m (readWord m now) p) (λ p e. leave-same m p)) commit-came) e
+      (decide-crosses m (Same m) (fetch m now) (readWord m now) (λ p e. enter-same m (readWord m now) p) (λ p e. leave-same m _ p)) commit-came) e
 
 pub step-length : (m : Machine) (words : List ℕ) (d : Done) → execute m words ≡ ok d → length (d .words) ≡ length words
 step-length m words d e = step-came (m .layout) words m words (record { layout = refl; room = refl; past = λ i l. refl }) d e .room

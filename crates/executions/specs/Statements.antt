@@ -5,7 +5,8 @@ use mathlib.Core.List.{List}
 use mathlib.Core.Logic.{_⊎_}
 use mathlib.Core.Path.{_≡_}
 use lib.ListN.{getD, length}
-use Rattle.words.specs.Answer.{Answer, refuse, ok}
+use Rattle.words.specs.Answer.{Answer, refuse, ok, _>>=_}
+use Rattle.words.specs.InstructionWord.{instructionOf}
 use Rattle.words.specs.declared.pointer.Pointer.{Pointer}
 use Rattle.state.specs.declared.record.Machine.{Machine}
 use Rattle.state.specs.Bases.{baseOf, wordsIn}
@@ -13,6 +14,7 @@ use Rattle.soundness.specs.Sound.{soundTest}
 use Rattle.memory.specs.Reader.{readWord, fetch}
 use Rattle.instructions.specs.Plan.{Plan, enter, leave}
 use Rattle.instructions.specs.Instruction.{planOf}
+use Rattle.instructions.specs.Made.{placeOf}
 use Rattle.crossings.specs.Crossing.{enterOf, leaveOf}
 use Rattle.runs.specs.Step.{Completion, stopped, proceeded, crossing, Done, done, execute}
 use Rattle.runs.specs.Run.{ran, spent, faulted, refused, runFrom, judged}
@@ -41,6 +43,10 @@ abbrev pub plannedBy : Machine → List ℕ → Answer Plan
 plannedBy m words =
     planOf (m .layout .lengths) (m .layout .gates) (m .layout .rights) (m .layout .stacks) (m .depth) (m .registers) (m .pointers) (fetch m words) (readWord m words)
 
+-- the place of its indirect word
+abbrev pub indirectBy : Machine → List ℕ → Pointer
+indirectBy m words = placeOf (m .pointers) (fetch m words >>= instructionOf)
+
 -- a completed crossing is of an instruction that asks for a call through a gate, or for a return from one, and was granted it
 pub record CalledTo (m : Machine) (words : List ℕ) (n : Machine) : Type 0 where
   pub gate : Pointer
@@ -50,7 +56,7 @@ pub record CalledTo (m : Machine) (words : List ℕ) (n : Machine) : Type 0 wher
 pub record ReturnedTo (m : Machine) (words : List ℕ) (n : Machine) : Type 0 where
   pub back : Pointer
   pub asked : plannedBy m words ≡ ok (leave back)
-  pub made : leaveOf m back ≡ ok n
+  pub made : leaveOf m (indirectBy m words) back ≡ ok n
 
 -- what a completed instruction made of the record m: HALT nothing; all but a crossing keep the executing domain and the number of frames in use
 abbrev pub Made : Machine → List ℕ → Completion → Machine → Type 0

@@ -6,21 +6,24 @@ use mathlib.Core.Option.{Option, none, some, Option·getD}
 use mathlib.Core.Path.{_≡_, refl, sym, ap, _∙_}
 use lib.ListN.{length}
 use Rattle.words.specs.declared.pointer.Pointer.{Pointer}
+use Rattle.state.specs.declared.record.Register.{Register}
 use Rattle.state.specs.declared.record.Machine.{Machine}
 use Rattle.state.specs.Bases.{wordsIn}
 use Rattle.runs.specs.Step.{movedTo}
 use Rattle.runs.specs.Run.{Ran, ran, Ending}
+use Rattle.executions.proofs.Fit.{Fits, Fit}
 use Rattle.isolation.specs.Visible.{maySee, couldWrite, wordAt}
 use Rattle.isolation.specs.Stores.{Store, storedAll, received, Each}
 use Rattle.isolation.specs.Isolation.{Agree, Unchanged, Received, Writable, Isolated}
 use Rattle.isolation.proofs.Hidden.{seen-there}
 use Rattle.isolation.proofs.Stored.{stored-length, stored-on, each-on, after-stores, same-after, kept-after}
 
--- two memories that hold all words, and agree on those that the domain may see
+-- two memories that hold all words, and agree on those that the domain may see; the registers fit
 pub record Ready (m : Machine) (w v : List ℕ) : Type 0 where
   pub first : wordsIn (m .layout .lengths) ≤ length w
   pub second : wordsIn (m .layout .lengths) ≤ length v
   pub agree : Agree m w v
+  pub fit : Fit m
 
 -- two runs end alike, and each memory is the one at the start with the same stores made
 pub record Alike (m : Machine) (w v : List ℕ) (x y : Ran) (xs ys : List Store) : Type 0 where
@@ -38,16 +41,18 @@ unfolding storedAll Each
 ends m w v n c e = record { machine = refl; count = refl; ending = refl; stores = refl; allowed = tt; first = refl; second = refl }
 
 -- they move on, with stores made in both: nothing changes of what the domain may see and could write
-module _ (m : Machine) (a s o : ℕ) (ps : List Pointer) (made : List Store) (all : Each (Writable m) made) (w v : List ℕ) where
-  pub ready-on : Ready m w v → Ready (movedTo m a s o ps) (storedAll (m .layout .lengths) w made) (storedAll (m .layout .lengths) v made)
+module _ (m : Machine) (a s o : ℕ) (ps : List Pointer) (rs : List Register) (h : Fits m rs) (made : List Store) (all : Each (Writable m) made) (w v : List ℕ) where
+  pub ready-on : Ready m w v → Ready (movedTo m a s o ps rs) (storedAll (m .layout .lengths) w made) (storedAll (m .layout .lengths) v made)
   unfolding maySee
   ready-on r = record {
     first = rw stored-length (r .first);
     second = rw stored-length (r .second);
     agree = λ s k e. same-after m s k (seen-there m s k e) made all w v (r .first) (r .second) (r .agree s k e);
+    fit = record { few = r .fit .few; recent = h };
   }
 
-  pub alike-on : (x y : Ran) (xs ys : List Store) → Alike (movedTo m a s o ps) (storedAll (m .layout .lengths) w made) (storedAll (m .layout .lengths) v made) x y xs ys
+  pub alike-on : (x y : Ran) (xs ys : List Store)
+      → Alike (movedTo m a s o ps rs) (storedAll (m .layout .lengths) w made) (storedAll (m .layout .lengths) v made) x y xs ys
       → Alike m w v x y (made ++ xs) (made ++ ys)
   unfolding couldWrite
   alike-on x y xs ys h = record {

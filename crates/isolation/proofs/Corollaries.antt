@@ -8,7 +8,7 @@ use Rattle.words.specs.Answer.{Answer, refuse, ok}
 use Rattle.state.specs.declared.record.Machine.{Machine}
 use Rattle.runs.specs.Step.{Completion, stopped, proceeded, crossing, Done, execute}
 use Rattle.runs.specs.Run.{crossed, after, afterCompletion, runFrom}
-use Rattle.isolation.proofs.Theorem.{isolation-fits}
+use Rattle.isolation.proofs.Main.{isolation}
 use Rattle.isolation.proofs.Hidden.{hidden-agrees}
 use Rattle.isolation.proofs.ReadOnly.{no-write}
 use Rattle.isolation.specs.Statements.{Secrecy, RunIsolation, Integrity, ReadOnly}
@@ -34,15 +34,15 @@ run-is-stretch (suc k) n m w h = by (execute m w) (run-is-stretch k (n + 1)) h
     by (ok d) rest h = event (d .completion) (d .machine) (d .words) (rest (d .machine) (d .words)) h
 
 pub secrecy : Secrecy
-secrecy m limit w few hw s k x e hidden = isolation-fits m limit w _ few hw (rw length-set hw) (hidden-agrees m w s k x e hidden)
+secrecy m limit w sound hw s k x e hidden = isolation m sound limit w _ hw (rw length-set hw) (hidden-agrees m w s k x e hidden)
 
 pub run-isolation : RunIsolation
-run-isolation m limit w few hw v hv h stays =
-    let i = isolation-fits m limit w v few hw hv h in
+run-isolation m limit w sound hw v hv h stays =
+    let i = isolation m sound limit w v hw hv h in
     rw (run-is-stretch limit 0 m w stays, run-is-stretch limit 0 m v (λ e. stays (i .ending ∙ e))) i
 
 pub integrity : Integrity
-integrity m limit w few hw s k e c = isolation-fits m limit w w few hw hw (λ s k _. refl) .unwritten s k e c .0
+integrity m limit w sound hw s k e c = isolation m sound limit w w hw hw (λ s k _. refl) .unwritten s k e c .0
 
 pub read-only : ReadOnly
-read-only m limit w few hw none dead s k e = integrity m limit w few hw s k e (no-write m none dead s k)
+read-only m limit w sound hw none dead s k e = integrity m limit w sound hw s k e (no-write m none dead s k)

@@ -1,4 +1,5 @@
 pub mod Or
+pub mod Passed
 pub mod Sees
 pub mod Hidden
 pub mod Stored
@@ -7,7 +8,7 @@ pub mod Twins
 pub mod Alike
 pub mod Theorem
 pub mod ReadOnly
-pub mod Corollaries
 pub mod Main
+pub mod Corollaries
 pub mod Worked
 pub mod Counterexamples

@@ -10,13 +10,14 @@ use Rattle.runs.proofs.Judging.{judged-sound, judged-long}
 use Rattle.processor.specs.Calls.{stretchOf, stretchCall}
 use Rattle.executions.specs.Called.{stepsCalled}
 use Rattle.executions.proofs.Called.{steps-stretch}
+use Rattle.executions.proofs.Fit.{sound-fit}
 use Rattle.isolation.specs.Stores.{storesOf}
 use Rattle.isolation.specs.Isolation.{Agree, Isolated}
 use Rattle.isolation.proofs.Theorem.{isolation-fits}
 use Rattle.isolation.specs.Statements.{Isolation, CallIsolation, StepsIsolation}
 
 pub isolation : Isolation
-isolation m sound limit w v hw hv agree = isolation-fits m limit w v (sound-facts m sound .layout .words) hw hv agree
+isolation m sound limit w v hw hv agree = isolation-fits m (sound-fit m sound) limit w v (sound-facts m sound .layout .words) hw hv agree
 
 -- a call that is not refused is the stretch, and so are calls of step
 called : (limit : ℕ) (m : Machine) (words : List ℕ) → judged m words ≡ 0 → stretchCall limit m words ≡ stretchOf limit m words

@@ -1,4 +1,4 @@
--- Stretches of any instruction set: decide may be any function of the record, the fetched word and the reader.
+-- Stretches of any instruction set: decide may be any function of the record, the fetched word and the reader that goes on with registers that fit.
 use Prim.Native.Nat.{ℕ, zero, suc, _+_}
 use mathlib.Core.Bool.{true}
 use mathlib.Core.List.{List, [], _++_}
@@ -8,7 +8,13 @@ use Rattle.state.specs.declared.record.Machine.{Machine}
 use Rattle.memory.specs.Reader.{Reader, readWord, fetch}
 use Rattle.runs.specs.Step.{Act, Done, decide, commit, execute}
 use Rattle.runs.specs.Run.{Ran, ran, spent, after, runFrom}
+use Rattle.executions.proofs.Says.{Says}
+use Rattle.executions.proofs.Fit.{Fit, GoesFit, decide-fits}
 use Rattle.isolation.specs.Stores.{Store, storesBy, storesAfter, storesOf}
+
+-- where the registers of the record fit its frames, so do those that an instruction goes on with
+abbrev pub GoesOn : (Machine → Answer ℕ → Reader → Answer Act) → Type 0
+GoesOn decide = (m : Machine) → Fit m → (fetched : Answer ℕ) (read : Reader) → Says (GoesFit m) (decide m fetched read)
 
 module _ (decide : Machine → Answer ℕ → Reader → Answer Act) where
   abbrev pub executeWith : Machine → List ℕ → Answer Done
@@ -26,7 +32,10 @@ module _ (decide : Machine → Answer ℕ → Reader → Answer Act) where
   storesWith zero m words = []
   storesWith (suc k) m words = madeWith m words ++ storesAfter (storesWith k) (executeWith m words)
 
--- the processor's stretch is the one at its own decide
+-- the processor's decide goes on so, and its stretch is the one at it
+pub goes-on : GoesOn decide
+goes-on = decide-fits
+
 pub stretch-is : (k n : ℕ) → stretchWith decide k n ≡ runFrom true k n
 unfolding stretchWith runFrom execute
 stretch-is zero n = refl

@@ -11,9 +11,14 @@ use Rattle.words.specs.Offset.{signedOf, displacedOf, literalOf}
 use Rattle.words.specs.PointerWord.{pointerOf}
 use Rattle.words.specs.InstructionWord.{instructionOf}
 use Rattle.words.specs.ModeWord.{modeOf}
+use Rattle.state.specs.declared.record.Capability.{Capability}
 use Rattle.state.specs.declared.record.Machine.{Machine}
 use Rattle.state.specs.Record.{noPointer, noCapability, freeFrame}
 use Rattle.state.specs.Bases.{baseOf, basesOf}
+use Rattle.recent.specs.Entering.{yields, allYield, same, mayEnter}
+use Rattle.recent.specs.Registers.{register, emptyFrom, freshRegisters, withEntry as filled, listed}
+use Rattle.recent.specs.Found.{heldOf, foundOf}
+use Rattle.recent.specs.SoundRegisters.{absent, numbersTest, registerTest, contentsTest, recentTest}
 use Rattle.layout_soundness.specs.SoundLayout.{allFrom, segmentTest, stackTest, rightsTest, startTest, gateTest, gatesTest, rangesTest, layoutTest}
 use Rattle.soundness.specs.Sound.{registersTest, pointerTest, pointersTest, capabilityTest, emptyCapability, emptyPointer, emptyFrame, frameTest, framesTest, soundTest}
 use Rattle.references.specs.declared.flag.Flag.the-variants as flag
@@ -21,16 +26,18 @@ use Rattle.references.specs.declared.flag.Access.the-variants as access
 use Rattle.references.specs.Flag.{has}
 use Rattle.references.specs.Static.{exists, rightsOf, staticOf}
 use Rattle.capabilities.specs.Search.{coversOf, firstOf}
-use Rattle.references.specs.Live.{liveMatch, liveOf}
+use Rattle.references.specs.Live.{liveMatch, liveOf, liveThrough}
 use Rattle.references.specs.Reference.{verdictOf, locateOf, referenceOf}
 use Rattle.references.specs.Check.{check}
+use Rattle.references.specs.Made.{renewed, renewedAll}
 use Rattle.memory.specs.Reader.{readOf, fetchOf, readWord, fetch}
 use Rattle.addressing.specs.Effective.{displacedBy, throughOf, effectiveOf}
 use Rattle.transfers.specs.Transfer.{jumpCheck, callWay}
 use Rattle.instructions.specs.Instruction.{loadOf, branchOf, callOf, isLoad, isStore, valueOf, takenOf, effectOf, executeOf, planOf, jumpOf, returnOf}
+use Rattle.instructions.specs.Made.{indirectPlace, madeAt, madeBy}
 use Rattle.arguments.specs.ArgumentList.{listWord, listPointer, sourceOf, capabilityOf, argumentOf, argumentsFrom, frameAfter, frameOf}
-use Rattle.crossings.specs.Crossing.{entered, enterOf}
-use Rattle.runs.specs.Step.{decide, commit, execute}
+use Rattle.crossings.specs.Crossing.{calledRecent, entered, enterOf}
+use Rattle.runs.specs.Step.{recentAfter, decide, commit, execute}
 use Rattle.runs.specs.Run.{ran, crossed, runFrom}
 use Rattle.processor.specs.Calls.{stretchOf}
 use Rattle.isolation.specs.Visible.{byStatic, byLive, maySee, couldWrite, existing, place, wordAt}
@@ -60,6 +67,7 @@ start = record {
   registers = record { a = 0; word = 0; segment = 0; domain = 0 };
   pointers = set (replicate 8 noPointer) 2 (record { word = 0; segment = 1; tag = false });
   frames = replicate 8 freeFrame;
+  recent = freshRegisters;
   depth = 0;
 }
 
@@ -78,6 +86,10 @@ memory n hidden rest =
 abbrev after : (n hidden : ℕ) → List ℕ → List ℕ
 after n hidden rest = set (set (memory n hidden rest) (place start 1 6) n) (place start 3 1) n
 
+-- the read capability for the list, which the call enters in the first register
+abbrev list : Capability
+list = record { word = 1; length = 5; segment = 1; source = 0; read = true; write = false }
+
 -- the machine when n is stored and domain 1 is entered
 unfoldable pub called : ℕ → Machine
 called n = record {
@@ -87,13 +99,14 @@ called n = record {
   frames = set (replicate 8 freeFrame) 0 (record {
     capabilities =
         record { word = 6; length = 1; segment = 1; source = 0; read = true; write = false } ∷
-        record { word = 1; length = 5; segment = 1; source = 0; read = true; write = false } ∷
+        list ∷
         replicate 7 noCapability;
     s = noPointer;
     back = record { word = 5; segment = 0; tag = false };
     count = 2;
     domain = 0;
   });
+  recent = register list 1 15 ∷ emptyFrom 15 0;
   depth = 1;
 }
 
@@ -117,7 +130,11 @@ pub record Computed (hidden : ℕ) (rest : List ℕ) : Type 0 where
   pub written : wordAt start (after 5 hidden rest) 1 6 ≡ 5
 
 pub computed : (hidden : ℕ) (rest : List ℕ) → Computed hidden rest
-unfolding field common signedOf displacedOf literalOf pointerOf instructionOf modeOf baseOf basesOf has exists rightsOf staticOf coversOf firstOf liveMatch liveOf verdictOf locateOf referenceOf check readOf fetchOf readWord fetch displacedBy throughOf effectiveOf jumpCheck callWay loadOf branchOf callOf isLoad isStore valueOf takenOf effectOf executeOf planOf jumpOf returnOf listWord listPointer sourceOf capabilityOf argumentOf argumentsFrom frameAfter frameOf entered enterOf decide commit execute runFrom storesOf maySee couldWrite start memory called
+unfolding field common signedOf displacedOf literalOf pointerOf instructionOf modeOf baseOf basesOf has exists rightsOf staticOf coversOf firstOf yields
+    allYield filled listed heldOf foundOf liveMatch liveOf liveThrough verdictOf locateOf referenceOf check renewed renewedAll readOf fetchOf readWord fetch
+    displacedBy throughOf effectiveOf jumpCheck callWay loadOf branchOf callOf isLoad isStore valueOf takenOf effectOf executeOf planOf jumpOf returnOf
+    indirectPlace madeAt madeBy listWord listPointer sourceOf capabilityOf argumentOf argumentsFrom frameAfter frameOf calledRecent entered enterOf
+    recentAfter decide commit execute runFrom storesOf maySee couldWrite start memory called
 computed hidden rest = record {
   five = refl;
   six = refl;
@@ -134,11 +151,15 @@ computed hidden rest = record {
 
 -- both machines are sound
 pub start-sound : soundTest start ≡ true
-unfolding start baseOf has rightsOf allFrom segmentTest stackTest rightsTest startTest gateTest gatesTest rangesTest layoutTest registersTest pointerTest pointersTest capabilityTest emptyCapability emptyPointer emptyFrame frameTest framesTest soundTest
+unfolding start baseOf has rightsOf allFrom segmentTest stackTest rightsTest startTest gateTest gatesTest rangesTest layoutTest registersTest pointerTest
+    pointersTest capabilityTest emptyCapability emptyPointer emptyFrame frameTest framesTest absent numbersTest same registerTest contentsTest recentTest
+    soundTest
 start-sound = refl
 
 pub called-sound : soundTest (called 5) ≡ true
-unfolding start called baseOf has rightsOf allFrom segmentTest stackTest rightsTest startTest gateTest gatesTest rangesTest layoutTest registersTest pointerTest pointersTest capabilityTest emptyCapability emptyPointer emptyFrame frameTest framesTest soundTest
+unfolding start called baseOf has rightsOf allFrom segmentTest stackTest rightsTest startTest gateTest gatesTest rangesTest layoutTest registersTest
+    pointerTest pointersTest capabilityTest emptyCapability emptyPointer emptyFrame frameTest framesTest absent numbersTest yields same mayEnter
+    registerTest contentsTest recentTest soundTest
 called-sound = refl
 
 -- a memory whose rest is long enough has 8,192 words; such a rest, of zeros

@@ -30,8 +30,8 @@ storesThrough p z (ok i) = record { segment = p .segment; word = p .word; value 
 abbrev pub storesBy : Machine → Answer Act → List Store
 storesBy m (refuse n) = []
 storesBy m (ok stop) = []
-storesBy m (ok (proceed a segment word pointers)) = []
-storesBy m (ok (put p z)) = storesThrough p z (check m access.Write p)
+storesBy m (ok (proceed a segment word pointers recent)) = []
+storesBy m (ok (put p z recent)) = storesThrough p z (check m access.Write p)
 storesBy m (ok (cross n)) = []
 
 -- by what follows a completed instruction: HALT and a crossing end a stretch

@@ -3,7 +3,10 @@ ghost use mathlib.Core.Path.{_≡_};
 ghost use Rattle.isolation.specs.Visible.{byStatic, byLive, maySee, couldWrite};
 use references::flag::Access;
 use references::flag::Flag;
-use references::live::live_check;
+use references::flag::asked;
+use references::flag::is_read;
+use references::live::SourceAnswer;
+use references::live::pass_on;
 use references::statics::static_check;
 use state::frames::in_use;
 use state::frames::live_frame;
@@ -25,23 +28,26 @@ fn by_static(m: Machine, flag: Flag, segment: u8, word: u16) -> bool
         == 0
 }
 
-// Whether the live frame passes the live check.
+// Whether the live frame passes the live check, with no registers.
 fn by_live(m: Machine, access: Access, segment: u8, word: u16) -> bool
     ensures { λ r. ⌜ r ≡ byLive m access segment word ⌝ }
 {
     let frames = m.frames;
     let frame = live_frame(frames, m.depth);
     let depth = in_use(m.depth);
-    live_check(
-        &m.layout.lengths,
-        &m.layout.rights,
-        depth,
-        frame,
-        access,
-        segment,
-        word,
-    )
-        == 0
+    let read = is_read(access);
+    match pass_on(depth, frame, segment, word, 1, read, !read) {
+        SourceAnswer::Refused(n) => false,
+        SourceAnswer::Source(domain) => static_check(
+            &m.layout.lengths,
+            &m.layout.rights,
+            domain,
+            asked(access),
+            segment,
+            word,
+        )
+            == 0,
+    }
 }
 
 // Whether the executing domain may execute a word, or read it by either check.

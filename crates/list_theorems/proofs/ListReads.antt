@@ -23,8 +23,12 @@ use Rattle.references.specs.Reference.{indexOf, accept, verdictOf, locateOf, re
 use Rattle.references.specs.Check.{staticCheck}
 use Rattle.memory.specs.Reader.{readOf, readWord}
 use Rattle.arguments.specs.ArgumentList.{listCapability}
+use Rattle.runs.specs.Step.{crossing, done}
 use Rattle.executions.specs.Statements.{SoundRecord, CalledTo}
-use Rattle.executions.proofs.Gates.{gated}
+use Rattle.executions.proofs.Fit.{Fit, sound-fit}
+use Rattle.executions.proofs.Through.{live-same}
+use Rattle.executions.proofs.Sound.{step-sound}
+use Rattle.executions.proofs.Gates.{gated, call-fetches}
 use Rattle.executions.proofs.Made.{call-facts}
 use Rattle.list_theorems.proofs.Rows.{first-at, first-some}
 use Rattle.list_theorems.specs.Statements.{listAt, live, Listed, readBy, listPlace, reads, ListRead, ListMatched}
@@ -64,6 +68,10 @@ module _ (m n : Machine) (words : List ℕ) (s : SoundRecord m) (c : CalledTo m 
   counted : live n .count ≡ suc (l .arguments)
   counted = l .count ∙ add-one (l .arguments)
 
+  -- the record after the call is sound, so its registers change no read
+  after : Fit n
+  after = sound-fit n (step-sound m words s (done n words crossing) (call-fetches m n words s c .0) .0)
+
   -- what the search of the live frame answers, as a read
   abbrev readAs : Answer Capability → Answer ℕ
   readAs x =
@@ -71,7 +79,7 @@ module _ (m n : Machine) (words : List ℕ) (s : SoundRecord m) (c : CalledTo m 
 
   searched : readWord n words at ≡ readAs (firstOf fits (take (suc (l .arguments)) (live n .capabilities)))
   unfolding readWord readOf referenceOf verdictOf liveOf liveMatch
-  searched = simp (some, counted, call-facts m n words (c .gate) (c .made) .layout)
+  searched = rw (live-same n after access.Read (at .segment) (at .word)) (simp (some, counted, call-facts m n words (c .gate) (c .made) .layout))
 
   -- it is read by the rights of the source of what was found
   by-source : (d : Capability) → readAs (ok d) ≡ readBy words (staticCheck m (d .source) flag.Read (at .segment) (at .word))

@@ -16,10 +16,16 @@ use Rattle.words.specs.InstructionWord.{instructionOf}
 use Rattle.words.specs.ModeWord.{modeOf}
 use Rattle.words.specs.declared.pointer.Pointer.{Pointer}
 use Rattle.state.specs.declared.record.Layout.{Layout}
+use Rattle.state.specs.declared.record.Capability.{Capability}
 use Rattle.state.specs.declared.record.Frame.{Frame}
+use Rattle.state.specs.declared.record.Register.{Register}
 use Rattle.state.specs.declared.record.Machine.{Machine}
 use Rattle.state.specs.Record.{noPointer, noCapability, freeFrame}
 use Rattle.state.specs.Bases.{baseOf, basesOf}
+use Rattle.recent.specs.Entering.{yields, allYield, same, mayEnter}
+use Rattle.recent.specs.Registers.{register, emptyFrom, risen, touched, withEntry as filled, orderOf, before, cleared, listed}
+use Rattle.recent.specs.Found.{heldOf, foundOf, referredTo}
+use Rattle.recent.specs.SoundRegisters.{absent, numbersTest, registerTest, contentsTest, recentTest}
 use Rattle.fresh.specs.Fresh.{freshOf}
 use Rattle.layout_soundness.specs.SoundLayout.{allFrom, segmentTest, stackTest, rightsTest, startTest, gateTest, gatesTest, rangesTest, layoutTest}
 use Rattle.soundness.specs.Sound.{registersTest, pointerTest, pointersTest, capabilityTest, emptyCapability, emptyPointer, emptyFrame, frameTest, framesTest, soundTest}
@@ -27,16 +33,18 @@ use Rattle.capabilities.specs.Search.{coversOf, firstOf}
 use Rattle.references.specs.declared.flag.Flag.the-variants as flag
 use Rattle.references.specs.Flag.{has}
 use Rattle.references.specs.Static.{exists, rightsOf, staticOf}
-use Rattle.references.specs.Live.{liveMatch, liveOf, passedOf}
+use Rattle.references.specs.Live.{liveMatch, liveThrough, passedOf}
 use Rattle.references.specs.Reference.{verdictOf, locateOf, referenceOf}
 use Rattle.references.specs.Check.{staticCheck, check}
+use Rattle.references.specs.Made.{renewed, renewedAll}
 use Rattle.memory.specs.Reader.{readOf, fetchOf, readWord, fetch}
 use Rattle.addressing.specs.Effective.{displacedBy, throughOf, effectiveOf}
 use Rattle.transfers.specs.Transfer.{jumpCheck, callWay}
 use Rattle.instructions.specs.Instruction.{jumpOf, callOf, returnOf, loadOf, isLoad, isStore, valueOf, effectOf, executeOf, planOf}
+use Rattle.instructions.specs.Made.{indirectPlace, madeAt, madeBy}
 use Rattle.arguments.specs.ArgumentList.{listWord, listPointer, sourceOf, capabilityOf, argumentOf, argumentsFrom, frameAfter, frameOf}
-use Rattle.crossings.specs.Crossing.{entered, left, enterOf, leaveCheck, leaveOf}
-use Rattle.runs.specs.Step.{decide, commit, execute}
+use Rattle.crossings.specs.Crossing.{calledRecent, leftRecent, entered, left, enterOf, leaveCheck, leaveOf}
+use Rattle.runs.specs.Step.{recentAfter, decide, commit, execute}
 use Rattle.runs.specs.Run.{ran, halted, spent, runFrom}
 use Rattle.processor.specs.Calls.{runOf}
 use Rattle.executions.specs.Statements.{SoundRecord, CalledTo}
@@ -85,15 +93,23 @@ memory rest = words 0 0 rest
 unfoldable pub relayed : List ℕ → List ℕ
 relayed rest = words 0 0x80001003 rest
 
+-- a read capability on segment 1
+abbrev readable : ℕ → ℕ → ℕ → Capability
+readable word length source = record { word = word; length = length; segment = 1; source = source; read = true; write = false }
+
+-- an empty register with a recency number
+abbrev empty : ℕ → Register
+empty n = register noCapability 0 n
+
 -- B's frame: what A handed to it, the list for C first, and last A's list for B
 abbrev frameOfB : Frame
 frameOfB =
     record {
       capabilities =
-          record { word = 12; length = 7; segment = 1; source = 0; read = true; write = false } ∷
-          record { word = 1; length = 1; segment = 1; source = 0; read = true; write = false } ∷
+          readable 12 7 0 ∷
+          readable 1 1 0 ∷
           record { word = 2; length = 1; segment = 1; source = 0; read = false; write = true } ∷
-          record { word = 3; length = 9; segment = 1; source = 0; read = true; write = false } ∷
+          readable 3 9 0 ∷
           replicate 5 noCapability;
       s = noPointer;
       back = record { word = 2; segment = 0; tag = false };
@@ -106,9 +122,9 @@ abbrev frameOfC : ℕ → Frame
 frameOfC source =
     record {
       capabilities =
-          record { word = 1; length = 1; segment = 1; source = 0; read = true; write = false } ∷
+          readable 1 1 0 ∷
           record { word = 2; length = 1; segment = 1; source = 0; read = false; write = true } ∷
-          record { word = 12; length = 7; segment = 1; source = source; read = true; write = false } ∷
+          readable 12 7 source ∷
           replicate 6 noCapability;
       s = noPointer;
       back = record { word = 3; segment = 2; tag = false };
@@ -119,7 +135,7 @@ frameOfC source =
 abbrev pointers : ℕ → ℕ → List Pointer
 pointers list stack = set (set (replicate 8 noPointer) 0 (record { word = list; segment = 1; tag = true })) 2 (record { word = 0; segment = stack; tag = false })
 
--- B about to call, with a at the list for C
+-- B about to call, with a at the list for C; the call of B entered its list in a register
 unfoldable pub relaying : Machine
 relaying =
     record {
@@ -127,10 +143,11 @@ relaying =
       registers = record { a = 0; word = 2; segment = 2; domain = 1 };
       pointers = pointers 12 3;
       frames = set (replicate 8 freeFrame) 0 frameOfB;
+      recent = register (readable 3 9 0) 1 15 ∷ emptyFrom 15 0;
       depth = 1;
     }
 
--- C called, the list of a source
+-- C called, the list of a source; the call read the list by B's first capability, and entered it for C
 unfoldable pub called : ℕ → Machine
 called source =
     record {
@@ -138,10 +155,11 @@ called source =
       registers = record { a = 0; word = 0; segment = 4; domain = 2 };
       pointers = pointers 12 5;
       frames = set (set (replicate 8 freeFrame) 0 frameOfB) 1 (frameOfC source);
+      recent = register (readable 3 9 0) 1 13 ∷ register (readable 12 7 0) 1 14 ∷ register (readable 12 7 source) 2 15 ∷ emptyFrom 13 0;
       depth = 2;
     }
 
--- the end: A has the answer, and no frame is in use
+-- the end: A has the answer, no frame is in use, and the returns cleared all registers
 unfoldable pub finished : Machine
 finished =
     record {
@@ -149,6 +167,7 @@ finished =
       registers = record { a = 22; word = 3; segment = 0; domain = 0 };
       pointers = pointers 3 1;
       frames = replicate 8 freeFrame;
+      recent = empty 1 ∷ empty 0 ∷ empty 4 ∷ empty 2 ∷ empty 3 ∷ emptyFrom 11 5;
       depth = 0;
     }
 
@@ -163,27 +182,33 @@ pub record Computed (rest : List ℕ) : Type 0 where
   pub whole : runOf 1000 start (memory rest) ≡ ran finished (words 22 0x80001003 rest) 13 halted
 
 pub computed : (rest : List ℕ) → Computed rest
-unfolding field common sumOf signedOf displacedOf pointerWord pointerOf instructionOf modeOf baseOf basesOf freshOf has exists rightsOf staticOf coversOf firstOf liveMatch liveOf passedOf
+unfolding field common sumOf signedOf displacedOf pointerWord pointerOf instructionOf modeOf baseOf basesOf freshOf has exists rightsOf staticOf coversOf
+    firstOf
+    yields allYield same mayEnter risen touched filled orderOf before cleared listed heldOf foundOf referredTo liveMatch liveThrough passedOf renewed renewedAll
     verdictOf locateOf referenceOf check readOf fetchOf readWord fetch displacedBy throughOf effectiveOf jumpCheck callWay jumpOf callOf returnOf loadOf isLoad isStore valueOf effectOf executeOf planOf
-    listWord listPointer sourceOf capabilityOf argumentOf argumentsFrom frameAfter frameOf entered left enterOf leaveCheck leaveOf decide commit execute runFrom
+    indirectPlace madeAt madeBy listWord listPointer sourceOf capabilityOf argumentOf argumentsFrom frameAfter frameOf
+    calledRecent leftRecent entered left enterOf leaveCheck leaveOf recentAfter decide commit execute runFrom
     start memory relayed relaying called finished
 computed rest = record { before = refl; call = refl; reads = refl; fails = refl; whole = refl }
 
 -- the theorem of a called domain's read, of this call: word k of C's list is read by the rights of A, which has R there
 sound : SoundRecord relaying
-unfolding relaying baseOf has rightsOf allFrom segmentTest stackTest rightsTest startTest gateTest gatesTest rangesTest layoutTest registersTest pointerTest pointersTest
-    capabilityTest emptyCapability emptyPointer emptyFrame frameTest framesTest soundTest
+unfolding relaying baseOf has rightsOf allFrom segmentTest stackTest rightsTest startTest gateTest gatesTest rangesTest layoutTest registersTest pointerTest
+    pointersTest
+    capabilityTest emptyCapability emptyPointer emptyFrame frameTest framesTest absent numbersTest yields same mayEnter registerTest contentsTest recentTest soundTest
 sound = (refl, refl)
 
 calls : (rest : List ℕ) → CalledTo relaying (relayed rest) (called 0)
-unfolding field common signedOf displacedOf pointerOf instructionOf modeOf baseOf basesOf has exists rightsOf staticOf coversOf firstOf liveMatch liveOf passedOf
+unfolding field common signedOf displacedOf pointerOf instructionOf modeOf baseOf basesOf has exists rightsOf staticOf coversOf firstOf
+    yields allYield same mayEnter touched filled listed heldOf foundOf referredTo liveMatch liveThrough passedOf renewed renewedAll
     verdictOf locateOf referenceOf readOf fetchOf readWord fetch displacedBy throughOf effectiveOf callWay callOf isLoad isStore effectOf executeOf planOf
-    listWord listPointer sourceOf capabilityOf argumentOf argumentsFrom frameAfter frameOf entered enterOf relayed relaying called
+    listWord listPointer sourceOf capabilityOf argumentOf argumentsFrom frameAfter frameOf calledRecent entered enterOf relayed relaying called
 calls rest = record { gate = record { word = 0; segment = 4; tag = false }; asked = refl; made = refl }
 
 -- C's list has two arguments, and its source is A: the capability that covers it is the first of B's frame
 list-of-c : (rest : List ℕ) (l : Listed relaying (relayed rest) (called 0)) → (l .arguments ≡ 2) × (l .source ≡ 0)
-unfolding field signedOf displacedOf baseOf basesOf has exists rightsOf staticOf coversOf firstOf liveMatch liveOf verdictOf locateOf referenceOf readOf readWord displacedBy listWord relayed relaying called
+unfolding field signedOf displacedOf baseOf basesOf has exists rightsOf staticOf coversOf firstOf heldOf foundOf liveMatch liveThrough verdictOf locateOf
+    referenceOf readOf readWord displacedBy listWord relayed relaying called
 list-of-c rest l = (two, first (l .arguments) two (l .source) (l .whose))
   where
     two : l .arguments ≡ 2

@@ -13,7 +13,7 @@ use Rattle.words.specs.Bit.{bit}
 use Rattle.state.specs.declared.record.Machine.{Machine}
 use Rattle.runs.specs.Step.{Completion, stopped, proceeded, crossing, Done, execute}
 use Rattle.runs.specs.Run.{spent, Ran, after, afterCompletion, runFrom}
-use Rattle.executions.specs.Statements.{Made}
+use Rattle.executions.specs.Statements.{Made, indirectBy}
 use Rattle.executions.proofs.Made.{step-made, call-facts, return-facts}
 use Rattle.crossing_log.specs.Crossings.{call, return, Crossing, kindOf, crossingTo, thenCrossings, crossingsAfter, crossingsOf}
 use Rattle.crossing_log.specs.Log.{sameKind, ofKind}
@@ -33,8 +33,8 @@ call-put-down m n words gate e =
     rw (kind-call (m .depth) (n .depth) (f .depth), f .registers) refl
 
 pub return-put-down : ReturnPutDown
-return-put-down m n back e =
-    let f = return-facts m n back e in
+return-put-down m n q back e =
+    let f = return-facts m n q back e in
     rw (kind-return (m .depth) (n .depth) (f .depth), f .registers) refl
 
 pub log-totals : LogTotals
@@ -48,7 +48,7 @@ one-balance : (m : Machine) (words : List ℕ) (n : Machine) → Made m words cr
 one-balance m words n h =
     ⊎-elim
     (λ c. let d = call-facts m n words (c .gate) (c .made) .depth in rw (kind-call (m .depth) (n .depth) d) (omega (arith, d)))
-    (λ r. let d = return-facts m n (r .back) (r .made) .depth in rw (kind-return (m .depth) (n .depth) d) (omega (arith, d))) h
+    (λ r. let d = return-facts m n (indirectBy m words) (r .back) (r .made) .depth in rw (kind-return (m .depth) (n .depth) d) (omega (arith, d))) h
 
 -- so do all of a run
 abbrev Balanced : ℕ → List Crossing → ℕ → Type 0

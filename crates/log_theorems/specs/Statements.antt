@@ -41,10 +41,10 @@ CallPutDown =
       word = gate .word;
     }
 
--- a return from one as a return from the executing domain into the newest frame's, at the place that is returned to
+-- a return from one, by an instruction with its indirect word at q, as a return from the executing domain into the newest frame's, at the place that is returned to
 abbrev pub ReturnPutDown : Type 0
 ReturnPutDown =
-    (m n : Machine) (back : Pointer) → leaveOf m back ≡ ok n
+    (m n : Machine) (q back : Pointer) → leaveOf m q back ≡ ok n
     → crossingTo m n
     ≡ record {
       kind = return;

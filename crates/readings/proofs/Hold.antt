@@ -21,7 +21,13 @@ use Rattle.soundness.specs.Sound.{registersTest, pointerTest, pointersTest, cap
 use Rattle.references.specs.Flag.{has}
 use Rattle.references.specs.Static.{exists, rightsOf, staticOf}
 use Rattle.capabilities.specs.Search.{coversOf, firstOf}
-use Rattle.references.specs.Live.{liveMatch, liveOf, passedOf}
+use Rattle.recent.specs.Entering.{shares, yields, allYield, same as same-capability, mayEnter}
+use Rattle.recent.specs.Registers.{risen, touched, withEntry as filled, orderOf, before, cleared, listed}
+use Rattle.recent.specs.Found.{heldOf, foundOf, referredTo}
+use Rattle.recent.specs.SoundRegisters.{absent, numbersTest, registerTest, contentsTest, recentTest}
+use Rattle.references.specs.Live.{liveMatch, liveOf, liveThrough, passedOf}
+use Rattle.references.specs.Made.{renewed, renewedAll}
+use Rattle.instructions.specs.Made.{indirectPlace, madeAt, madeBy}
 use Rattle.references.specs.Reference.{verdictOf, locateOf, referenceOf}
 use Rattle.references.specs.Check.{staticCheck, check}
 use Rattle.record_checks.specs.Judged.{judgedStatic, judgedCheck}
@@ -30,8 +36,8 @@ use Rattle.addressing.specs.Effective.{displacedBy, throughOf, effectiveOf}
 use Rattle.transfers.specs.Transfer.{jumpCheck, callWay}
 use Rattle.instructions.specs.Instruction.{jumpOf, callOf, returnOf, loadOf, branchOf, isLoad, isStore, valueOf, takenOf, effectOf, executeOf, planOf}
 use Rattle.arguments.specs.ArgumentList.{listWord, sourceOf, capabilityOf, listPointer, argumentOf, argumentsFrom, frameAfter, frameOf}
-use Rattle.crossings.specs.Crossing.{entered, left, enterOf, leaveCheck, leaveOf}
-use Rattle.runs.specs.Step.{decide, commit, execute}
+use Rattle.crossings.specs.Crossing.{entered, left, enterOf, leaveCheck, leaveOf, calledRecent, leftRecent}
+use Rattle.runs.specs.Step.{decide, commit, execute, recentAfter}
 use Rattle.runs.specs.Run.{runFrom, judged, calledOf}
 use Rattle.processor.specs.Calls.{runCall}
 use Rattle.segments.specs.Segment.{segmentCheck}
@@ -87,7 +93,8 @@ each (q ∷ rs) e r m =
     ⊎-elim (λ (p : r ≡ q). rw p (same-answer _ _ (t .0))) (λ n. each rs (t .1) r n) (List·Memᴰ·cases-cons m)
 
 pub readings : Readings
-unfolding field common pointerWord pointerOf signedOf displacedOf literalOf instructionOf
+unfolding shares yields allYield same-capability mayEnter risen touched filled orderOf before cleared listed heldOf foundOf referredTo absent numbersTest registerTest contentsTest recentTest liveThrough renewed renewedAll
+    indirectPlace madeAt madeBy recentAfter calledRecent leftRecent field common pointerWord pointerOf signedOf displacedOf literalOf instructionOf
     baseOf basesOf freshOf allFrom segmentTest stackTest rightsTest startTest gateTest gatesTest rangesTest layoutTest registersTest pointerTest pointersTest
     capabilityTest emptyCapability emptyPointer emptyFrame frameTest framesTest soundTest
     has exists rightsOf staticOf coversOf firstOf liveMatch liveOf passedOf verdictOf locateOf referenceOf staticCheck check judgedStatic judgedCheck

@@ -48,7 +48,7 @@ startTo segment word domain l =
 
 -- the layout changed; the registers stay
 abbrev pub relaid : (Layout → Layout) → Machine → Machine
-relaid change m = record { layout = change (m .layout); registers = m .registers; pointers = m .pointers; frames = m .frames; depth = m .depth }
+relaid change m = record { layout = change (m .layout); registers = m .registers; pointers = m .pointers; frames = m .frames; recent = m .recent; depth = m .depth }
 
 -- a fresh machine of the same layout
 abbrev pub restarted : Machine → Machine
@@ -56,7 +56,7 @@ restarted m = freshOf (m .layout)
 
 -- other registers
 abbrev registersTo : Registers → Machine → Machine
-registersTo r m = record { layout = m .layout; registers = r; pointers = m .pointers; frames = m .frames; depth = m .depth }
+registersTo r m = record { layout = m .layout; registers = r; pointers = m .pointers; frames = m .frames; recent = m .recent; depth = m .depth }
 
 abbrev pub holdingA : ℕ → Machine → Machine
 holdingA a m = let r = m .registers in registersTo (record { a = a; word = r .word; segment = r .segment; domain = r .domain }) m
@@ -67,11 +67,11 @@ locatedAt segment word domain m = registersTo (record { a = m .registers .a; wor
 
 -- pointer register i becomes p
 abbrev pub pointing : ℕ → Pointer → Machine → Machine
-pointing i p m = record { layout = m .layout; registers = m .registers; pointers = set (m .pointers) i p; frames = m .frames; depth = m .depth }
+pointing i p m = record { layout = m .layout; registers = m .registers; pointers = set (m .pointers) i p; frames = m .frames; recent = m .recent; depth = m .depth }
 
 -- frame i becomes f, and as many frames stay in use
 abbrev pub frameTo : ℕ → Frame → Machine → Machine
-frameTo i f m = record { layout = m .layout; registers = m .registers; pointers = m .pointers; frames = set (m .frames) i f; depth = m .depth }
+frameTo i f m = record { layout = m .layout; registers = m .registers; pointers = m .pointers; frames = set (m .frames) i f; recent = m .recent; depth = m .depth }
 
 -- the machine of a scene with this A and this pointer in register 0; its instruction is at word 0 of segment 0
 abbrev pub startOf : Scene → ℕ → Pointer → Machine

@@ -78,7 +78,7 @@ lending = sceneFrame (lent ∷ [])
 -- the machine with these frames in use
 abbrev pub inFrames : List Frame → Machine → Machine
 inFrames fs m =
-    record { layout = m .layout; registers = m .registers; pointers = m .pointers; frames = fill 8 freeFrame fs; depth = length fs }
+    record { layout = m .layout; registers = m .registers; pointers = m .pointers; frames = fill 8 freeFrame fs; recent = m .recent; depth = length fs }
 
 -- a frame, if there are any capabilities
 abbrev sceneFrames : List Capability → List Frame

@@ -1,0 +1,97 @@
+-- What is proved of the registers of recent capabilities; the proofs stand in proofs/.
+use Prim.Native.Nat.{ℕ}
+use mathlib.Core.Bool.{Bool, true, not}
+use mathlib.Core.List.{List, []}
+use mathlib.Core.Path.{_≡_}
+use lib.ListN.{length, getD}
+use Rattle.words.specs.Answer.{Answer, ok, _>>=_}
+use Rattle.words.specs.declared.pointer.Pointer.{Pointer}
+use Rattle.state.specs.declared.record.Capability.{Capability}
+use Rattle.state.specs.declared.record.Register.{Register}
+use Rattle.state.specs.declared.record.Machine.{Machine}
+use Rattle.state.specs.Record.{noRegister, inUse, liveFrame}
+use Rattle.soundness.specs.Sound.{soundTest}
+use Rattle.capabilities.specs.Search.{coversOf}
+use Rattle.recent.specs.Found.{holds}
+use Rattle.references.specs.declared.flag.Access.{Access}
+use Rattle.references.specs.Flag.{isRead}
+use Rattle.references.specs.Live.{liveMatch}
+use Rattle.references.specs.Check.{check}
+use Rattle.references.specs.Made.{MadeReference, renewedAll}
+use Rattle.runs.specs.Step.{Done, done, execute}
+use Rattle.runs.specs.Run.{Ran, ran, runFrom}
+use Rattle.processor.specs.Calls.{Step, runCall, stretchCall, stepCall}
+
+-- a record with other registers, and one with no registers at all: nothing is found in them, and none is entered
+abbrev pub withRecent : Machine → List Register → Machine
+withRecent m rs =
+    record {
+      layout = m .layout;
+      registers = m .registers;
+      pointers = m .pointers;
+      frames = m .frames;
+      recent = rs;
+      depth = m .depth;
+    }
+
+abbrev pub bare : Machine → Machine
+bare m = withRecent m []
+
+-- the same of what an instruction, a run and a step answer; a fault has no record
+abbrev pub bareDone : Answer Done → Answer Done
+bareDone x = x >>= (λ d. ok (done (bare (d .machine)) (d .words) (d .completion)))
+
+abbrev pub bareRan : Ran → Ran
+bareRan r = ran (bare (r .machine)) (r .words) (r .count) (r .ending)
+
+abbrev pub bareStep : Step → Step
+bareStep s = record { machine = bare (s .machine); words = s .words; number = s .number; halted = s .halted }
+
+-- every reference of a sound machine answers as with no registers at all
+abbrev pub SameCheck : Type 0
+SameCheck = (m : Machine) → soundTest m ≡ true → (access : Access) (p : Pointer) → check m access p ≡ check (bare m) access p
+
+-- so does every instruction: the same fault, or the same completion, words and record but for the registers
+abbrev pub SameStep : Type 0
+SameStep = (m : Machine) (words : List ℕ) → soundTest m ≡ true → bareDone (execute m words) ≡ execute (bare m) words
+
+-- and every run and stretch of at most k instructions, n completed before it
+abbrev pub SameRun : Type 0
+SameRun =
+    (m : Machine) (words : List ℕ) → soundTest m ≡ true → length (m .frames) ≡ 8 → (stretch : Bool) (k n : ℕ)
+    → bareRan (runFrom stretch k n m words) ≡ runFrom stretch k n (bare m) words
+
+-- and the calls
+abbrev pub SameRunCall : Type 0
+SameRunCall =
+    (m : Machine) (words : List ℕ) → soundTest m ≡ true → length (m .frames) ≡ 8 → (limit : ℕ)
+    → bareRan (runCall limit m words) ≡ runCall limit (bare m) words
+
+abbrev pub SameStretchCall : Type 0
+SameStretchCall =
+    (m : Machine) (words : List ℕ) → soundTest m ≡ true → length (m .frames) ≡ 8 → (limit : ℕ)
+    → bareRan (stretchCall limit m words) ≡ stretchCall limit (bare m) words
+
+abbrev pub SameStepCall : Type 0
+SameStepCall = (m : Machine) (words : List ℕ) → soundTest m ≡ true → bareStep (stepCall m words) ≡ stepCall (bare m) words
+
+-- the registers after references, one after the other
+abbrev pub recentPast : Machine → List MadeReference → List Register
+recentPast m before = renewedAll (m .recent) (inUse (m .depth)) (liveFrame (m .depth) (m .frames)) before
+
+-- within an instruction it does not matter which registers are consulted: those that it found, or those that its earlier references left
+abbrev pub InOrder : Type 0
+InOrder =
+    (m : Machine) → soundTest m ≡ true → (before : List MadeReference) (access : Access) (p : Pointer)
+    → check (withRecent m (recentPast m before)) access p ≡ check m access p
+
+-- a capability allows the access to a word, if its source may
+abbrev pub allows : Access → ℕ → ℕ → Capability → Bool
+allows access segment word = coversOf segment word 1 (isRead access) (not (isRead access))
+
+-- a registered match has the source of the live frame's first match
+abbrev pub MatchSource : Type 0
+MatchSource =
+    (m : Machine) → soundTest m ≡ true → (access : Access) (segment word i : ℕ)
+    → let r = getD (m .recent) i noRegister in holds (inUse (m .depth)) (allows access segment word) r ≡ true
+    → (c : Capability) × (liveMatch (inUse (m .depth)) (liveFrame (m .depth) (m .frames)) (allows access segment word) ≡ ok c) × (c .source ≡ r .capability .source)
