@@ -3,6 +3,7 @@
 #include <stdlib.h>
 #include <string.h>
 
+#include "capabilities.h"
 #include "fuzz.h"
 
 void must(bool holds, const char *call, const char *what)
@@ -52,6 +53,7 @@ static bool refused(const char *call, unsigned number, unsigned due)
     must((due == TOO_SHORT) == (record.length < RECORD), call, "8 must mean a record that is too short");
     must(due == 0 || number == due, call, "it must be refused with the number due");
     must(due != 0 || !has_dead_gate(record.at), call, "a record with a dead gate must be refused");
+    must(due != 0 || registers_are_sound(record.at), call, "the registers of a record that is accepted must be sound");
     if (due != 0)
         all_stay(call);
     return due != 0;
@@ -65,7 +67,7 @@ static void accepted_again(const char *call)
     all_stay(call);
 }
 
-/* What a completed call may have changed: the 919 bytes save the layout, and words of segments. */
+/* What a completed call may have changed: the record's bytes save the layout, and words of segments. */
 static void completed(const char *call)
 {
     must(same(&image) && same(&output), call, "what it was not lent must stay");
@@ -182,8 +184,12 @@ uint16_t step(void)
         all_stay("step");
     must(same(&words) || words_changed() == 1, "step", "at most one word may change");
     judge_frame();
+    if (code == 0)
+        judge_registers();
     if (code == NO_MATCH)
         count_uncovered_list();
+    if (number != 0 && number != BAD_INSTRUCTION)
+        count_fault_between();
     completed("step");
     return code;
 }
@@ -229,15 +235,26 @@ uint8_t segment_part(uint8_t segment)
     return number;
 }
 
-/* The code of a check through an untagged pointer: 21, then 22, else the index. */
-static uint32_t static_code(uint8_t write, uint8_t segment, uint16_t word)
+/* The code of a check by a domain's rights: 21, then 22, else the index. */
+static uint32_t static_code(unsigned domain, uint8_t write, uint8_t segment, uint16_t word)
 {
     const uint8_t *bytes = record.at;
     if (segment >= bytes[SEGMENTS] || word >= get16(bytes + LENGTHS + 2 * segment))
         return 0x10000 + NO_WORD;
-    if ((bytes[RIGHTS + 16 * bytes[EXECUTING] + segment] & (write == 0 ? 1 : 2)) == 0)
+    if ((bytes[RIGHTS + 16 * domain + segment] & (write == 0 ? 1 : 2)) == 0)
         return 0x10000 + FLAG_MISSING;
     return base_of(bytes, segment) + word;
+}
+
+/* The code of a check through a tagged pointer: 24 where no capability of the live frame matches, 25 where the first one's source fails, else the index. */
+uint32_t live_code(uint8_t write, uint8_t segment, uint16_t word)
+{
+    const uint8_t made[CAPABILITY] = { (uint8_t)word, (uint8_t)(word >> 8), 1, 0, segment, 0, write == 0, write != 0 };
+    const uint8_t *found = first_covering(record.at, made);
+    if (found == NULL)
+        return 0x10000 + NO_MATCH;
+    uint32_t code = static_code(found[SOURCE], write, segment, word);
+    return code < 0x10000 ? code : 0x10000 + SOURCE_FAILS;
 }
 
 uint32_t check(uint8_t write, uint8_t tag, uint8_t segment, uint16_t word)
@@ -248,15 +265,10 @@ uint32_t check(uint8_t write, uint8_t tag, uint8_t segment, uint16_t word)
     all_stay("check");
     if (refused("check", code - 0x10000, due))
         return code;
-    if (tag == 0) {
-        must(code == static_code(write, segment, word), "check", "untagged, its code must be that of the rights");
-    } else if (code < 0x10000) {
-        must(segment < record.at[SEGMENTS] && word < get16(record.at + LENGTHS + 2 * segment), "check", "the word must exist");
-        must(code == base_of(record.at, segment) + word, "check", "the index must be that of the word");
-        must(record.at[DEPTH] != 0, "check", "tagged, a frame must be in use");
-    } else {
-        must(code == 0x10000 + NO_MATCH || code == 0x10000 + SOURCE_FAILS, "check", "tagged, its number must be 24 or 25");
-    }
+    if (tag == 0)
+        must(code == static_code(record.at[EXECUTING], write, segment, word), "check", "untagged, its code must be that of the rights");
+    else
+        must(code == live_code(write, segment, word), "check", "tagged, its code must be that of the first capability that matches");
     return code;
 }
 

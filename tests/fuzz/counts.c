@@ -9,14 +9,18 @@ enum { ENDINGS = 40, ANSWERS = ENDINGS + REFUSED };
 static const char *const mode_names[MODES] = { "image", "record", "edited image", "edited record" };
 static const char *const call_names[CALLS] = { "read", "run", "stretch", "log", "step", "write", "segment", "check", "restart", "entry" };
 static const char *const ending_names[] = { "halted", "faulted", "spent", "crossed" };
+static const char *const use_names[USES] = {
+    "references matched by a register", "references with a match in another frame's register alone", "found capabilities entered", "found capabilities that may not be entered", "registers of an older frame replaced",
+    "lists entered", "lists that may not be entered", "returns that empty registers", "faults after an indirect word through a tagged pointer"
+};
 
 static enum mode current;
 static unsigned long inputs[MODES], images[MODES], records[MODES];
 static unsigned long counts[MODES][CALLS][ANSWERS];
-static unsigned long frames[2], uncovered;
+static unsigned long frames[2], uncovered, uses[USES];
 
-/* Answers, states after a run, and lists. */
-enum { STATES = MODES * CALLS * ANSWERS, LISTS = STATES + 9 * 32, REACHED = LISTS + 3 * 9 };
+/* Answers, states after a run, lists, and uses of the registers. */
+enum { STATES = MODES * CALLS * ANSWERS, LISTS = STATES + 9 * 32, USED = LISTS + 3 * 9, REACHED = USED + USES * 16 };
 
 __attribute__((section("__libfuzzer_extra_counters"))) static uint8_t reached[REACHED];
 
@@ -59,7 +63,9 @@ static void print_counts(void)
     for (unsigned a = 0; a < ANSWERS; a++)
         print_row(a);
     printf("\n%-14s %8lu calls judged\n", "a untagged", frames[0]);
-    printf("%-14s %8lu calls judged, %8lu lists refused as not covered\n", "a tagged", frames[1], uncovered);
+    printf("%-14s %8lu calls judged, %8lu lists refused as not covered\n\n", "a tagged", frames[1], uncovered);
+    for (unsigned u = 0; u < USES; u++)
+        printf("%8lu %s\n", uses[u], use_names[u]);
 }
 
 void count_input(enum mode mode)
@@ -122,4 +128,11 @@ void count_uncovered(unsigned arguments)
 {
     uncovered++;
     reached[LISTS + 2 * 9 + arguments] = 1;
+}
+
+/* A use of the registers by a step that was judged, and which register, frame or number it was. */
+void count_use(enum use use, unsigned which)
+{
+    uses[use]++;
+    reached[USED + 16u * use + which % 16] = 1;
 }

@@ -21,11 +21,13 @@ enum {
 enum { LOG_BYTES = ZENKORV_LOG_BYTES, LOG_LIMIT = ZENKORV_LOG_LIMIT, CROSSING = 6, KIND = 0, LEFT = 1, ENTERED = 2, PLACE = 3 };
 
 enum { CUT_SHORT = 1, WRONG_KIND = 2, WRONG_LENGTH = 3, BYTES_LEFT = 6, MEMORY_TOO_SHORT = 7, TOO_SHORT = 8, NOT_SOUND = 9, DEAD_GATE = 10 };
-enum { NO_WORD = 21, FLAG_MISSING = 22, NO_MATCH = 24, SOURCE_FAILS = 25, LAST_FAULT = 32 };
-enum { E = 4, ALL_BUT_E = 11 };
+enum { NO_WORD = 21, FLAG_MISSING = 22, NO_MATCH = 24, SOURCE_FAILS = 25, BAD_INSTRUCTION = 27, LAST_FAULT = 32 };
+enum { R = 1, E = 4, G = 8, ALL_BUT_E = 11 };
+enum { LOAD = 1, STORE = 2, ADD = 3, SUB = 4, SPP = 6, CALL = 8, LIT = 12, INDIRECT = 0x8000 };
 enum ending { HALTED, FAULTED, SPENT, CROSSED, REFUSED };
 enum mode { IMAGE, RECORD_BYTES, EDITED_IMAGE, EDITED_RECORD, MODES };
 enum call { READ, RUN, STRETCH, LOG, STEP, WRITE, SEGMENT, CHECK, RESTART, ENTRY, CALLS };
+enum use { MATCHED, PASSED_OVER, ENTERED_FOUND, NOT_ENTERED, OLDER_REPLACED, LIST_ENTERED, LIST_NOT_ENTERED, CLEARED, FAULT_BETWEEN, USES };
 
 /* lent.c: what a call is lent lies against a page that it can't touch; the whole room is held against a copy. */
 struct lent {
@@ -95,13 +97,16 @@ void count_ending(enum call call, enum ending ending, unsigned number);
 void count_state(unsigned depth, unsigned completed);
 void count_frame(bool tagged, unsigned arguments);
 void count_uncovered(unsigned arguments);
+void count_use(enum use use, unsigned which);
 
 /* crossings.c: what must hold of a log, which is the output */
 void judge_log(unsigned calls, unsigned returns, unsigned completed);
 
-/* frames.c: what must hold of the frame that a step makes by a call through a gate */
+/* frames.c: what must hold of the frame that a step makes by a call through a gate, and of the registers after a step */
 void judge_frame(void);
+void judge_registers(void);
 void count_uncovered_list(void);
+void count_fault_between(void);
 
 /* calls.c: each call with what must hold of it alone */
 void must(bool holds, const char *call, const char *what);
@@ -112,6 +117,7 @@ uint32_t run_logged(void);
 uint16_t step(void);
 uint32_t write_image(void);
 uint8_t segment_part(uint8_t segment);
+uint32_t live_code(uint8_t write, uint8_t segment, uint16_t word);
 uint32_t check(uint8_t write, uint8_t tag, uint8_t segment, uint16_t word);
 uint8_t restart(void);
 uint8_t entry(uint16_t limit);
@@ -128,5 +134,7 @@ void neighbours_refused(uint8_t with_more);
 void gates_need_e(unsigned segment);
 void dead_gates_mended(void);
 void dead_record_refused(unsigned segment);
+void registers_do_not_matter(uint16_t limit);
+void registers_are_judged(void);
 
 #endif

@@ -1,6 +1,7 @@
 /* A libFuzzer harness over the calls of a host in C: any bytes as image and record, any words. */
 #include <string.h>
 
+#include "capabilities.h"
 #include "fuzz.h"
 
 enum { SOUP = 512 };
@@ -59,7 +60,7 @@ static void slice_log(const struct input *in)
 
 static void one_slice(const struct input *in, uint8_t call, uint8_t limit, uint8_t value)
 {
-    switch (call % 9) {
+    switch (call % 10) {
     case 0: run(limit); break;
     case 1: stretch(limit); break;
     case 2: step(); break;
@@ -68,6 +69,7 @@ static void one_slice(const struct input *in, uint8_t call, uint8_t limit, uint8
     case 5: segment_part(value % 20); break;
     case 6: check(value & 1, value & 2, value >> 4, limit); break;
     case 7: slice_log(in); break;
+    case 8: registers_do_not_matter(limit); break;
     default: write_image(); break;
     }
 }
@@ -100,12 +102,14 @@ static void every_call(const struct input *in)
     count_record(accepted);
     look(in);
     run_is_steps((uint16_t)(1 + in->limit % 8));
+    registers_do_not_matter(in->limit);
     stretch_is_run(in->limit);
     lend_log(in);
     log_is_stretches();
     lend_output(in);
     if (accepted) {
         dead_record_refused(below(record.at[SEGMENTS]));
+        registers_are_judged();
         slices(in);
         run(in->limit);
         look(in);
@@ -139,13 +143,15 @@ static void image_mode(const struct input *in)
     try_image(in);
 }
 
-/* 919 bytes, zeros where they are fewer; then words, or a soup of instructions. */
+/* A record's bytes, zeros and fresh registers where they are fewer; then words, or a soup of instructions. */
 static void record_mode(const struct input *in)
 {
-    size_t given = least(in->rest_length, record.length);
+    size_t given = least(in->rest_length, RECORD);
     size_t more = least(in->rest_length - given, words.length);
     memset(record.at, 0, record.length);
-    memcpy(record.at, in->rest, given);
+    if (record.length >= RECORD)
+        fresh_registers(record.at);
+    memcpy(record.at, in->rest, least(given, record.length));
     if (more == 0)
         made_soup((uint32_t *)(void *)words.at, least(words.length / 4, SOUP));
     memcpy(words.at, in->rest + given, more);

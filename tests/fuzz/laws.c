@@ -1,6 +1,7 @@
 /* What holds between calls. */
 #include <string.h>
 
+#include "capabilities.h"
 #include "chunks.h"
 #include "fuzz.h"
 
@@ -296,5 +297,63 @@ void dead_record_refused(unsigned segment)
         keep(&record);
     }
     each_call_refuses();
+    restore(&before);
+}
+
+/* A run with fresh registers gives the same code, and leaves the same words and bytes, save the registers. All is put back. */
+void registers_do_not_matter(uint16_t limit)
+{
+    save(&before);
+    uint32_t code = run(limit);
+    if (code >> 24 == REFUSED)
+        return;
+    save(&after);
+    restore(&before);
+    fresh_registers(record.at);
+    keep(&record);
+    must(run(limit) == code, "run", "its code must be that of a run with fresh registers");
+    memcpy(record.at + RECENT, after.record + (record.at - record.room) + RECENT, RECENT_BYTES);
+    must(same_as(&after), "run", "its words, and its record save the registers, must be those of a run with fresh registers");
+    restore(&before);
+}
+
+/* A capability of a frame in use, which may not be one that may be entered. */
+static void hold_any(uint8_t *r)
+{
+    if (record.at[DEPTH] == 0)
+        return;
+    r[OF_FRAME] = (uint8_t)(1 + below(record.at[DEPTH]));
+    const uint8_t *frame = frame_of(record.at, r[OF_FRAME]);
+    memcpy(r, capability(frame, below(frame[0])), CAPABILITY);
+}
+
+static void swap_numbers(uint8_t *r, uint8_t *other)
+{
+    uint8_t kept = r[RECENCY];
+    r[RECENCY] = other[RECENCY];
+    other[RECENCY] = kept;
+}
+
+static void change_a_register(void)
+{
+    uint8_t *r = recent(record.at, below(RECENT_ROWS));
+    switch (below(5)) {
+    case 0: hold_any(r); break;
+    case 1: swap_numbers(r, recent(record.at, below(RECENT_ROWS))); break;
+    case 2: memset(r, 0, RECENCY); break;
+    case 3: r[RECENCY] = (uint8_t)below(18); break;
+    default: r[below(RECENT_ROW)] = (uint8_t)(one_in(2) ? below(3) : draw()); break;
+    }
+    keep(&record);
+}
+
+/* Of an accepted record: with other registers it is accepted if these are sound, and only then. All is put back. */
+void registers_are_judged(void)
+{
+    save(&before);
+    for (unsigned k = 0; k < 4; k++) {
+        change_a_register();
+        must(run(0) == (registers_are_sound(record.at) ? 0x2000000 : 0x4090000), "run", "registers must be accepted if they are sound, and only then");
+    }
     restore(&before);
 }

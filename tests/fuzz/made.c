@@ -1,6 +1,7 @@
 /* Records that are sound, but for a dead gate in some; words that are often instructions and lists of arguments; images of both. */
 #include <string.h>
 
+#include "capabilities.h"
 #include "fuzz.h"
 
 /* Even segments hold code, odd ones a list of arguments: that of a domain whose stack it is. */
@@ -108,13 +109,24 @@ static void made_frame(uint8_t *to, unsigned segments, unsigned domains)
     to[81] = (uint8_t)below(domains);
 }
 
-/* As if a list had come as an argument: a is tagged, b at the stack, most capabilities of the live frame begin at a. They may be too short. */
+/* A segment with gates into another domain than the executing one, or the number of segments. */
+static unsigned made_gate(const uint8_t *bytes)
+{
+    unsigned s = 0;
+    while (s < bytes[SEGMENTS] && (get16(bytes + GATES + 2 * s) == 0 || bytes[GATE_DOMAINS + s] == bytes[EXECUTING]))
+        s++;
+    return s;
+}
+
+/* As if a list had come as an argument: a is tagged, b at the stack, most capabilities of the live frame begin at a. They may be too short. A gate may be called. */
 static void made_handed_list(uint8_t *bytes, unsigned segments)
 {
     uint8_t *a = bytes + POINTERS;
     uint8_t *frame = bytes + FRAMES + FRAME * (bytes[DEPTH] - 1u);
     const uint8_t stack[] = { 0, 0, bytes[STACKS + bytes[EXECUTING]], 0 };
     memcpy(bytes + POINTERS + 4 * 2, stack, 4);
+    if (made_gate(bytes) < segments)
+        bytes[RIGHTS + 16 * bytes[EXECUTING] + made_gate(bytes)] = R + G;
     put16(a, one_in(8) ? below(4) : 0);
     a[2] = made_segment(segments, true);
     a[3] = 1;
@@ -128,7 +140,45 @@ static void made_handed_list(uint8_t *bytes, unsigned segments)
     }
 }
 
-/* Any sound registers, pointers and frames on a layout; one record in four stays fresh, one in four has been handed a list. */
+/* As if words from a on had been an argument of an older frame. */
+static void made_older_argument(const uint8_t *bytes, uint8_t *frame)
+{
+    unsigned most = 4096 - get16(bytes + POINTERS);
+    uint8_t *to = frame + 1;
+    memcpy(to, bytes + POINTERS, 2);
+    put16(to + LENGTH, 1 + below(most < 40 ? most : 40));
+    to[OF_SEGMENT] = bytes[POINTERS + 2];
+    to[READS] = to[WRITES] = 1;
+}
+
+/* A register stays empty, or has a capability of one of the last three of so many frames, often its first, if it may be entered. */
+static void made_register(const uint8_t *bytes, uint8_t *to, unsigned frames)
+{
+    if (frames == 0 || one_in(3))
+        return;
+    unsigned number = frames - below(frames < 3 ? frames : 3);
+    const uint8_t *frame = frame_of(bytes, number);
+    unsigned k = one_in(2) ? 0 : below(frame[0]);
+    if (!may_be_entered(frame, k))
+        return;
+    memcpy(to, capability(frame, k), CAPABILITY);
+    to[OF_FRAME] = (uint8_t)number;
+}
+
+/* Any sound registers, with their numbers in any order; in one record of four all are empty, in some the live frame has none. */
+static void made_registers(uint8_t *bytes)
+{
+    unsigned frames = bytes[DEPTH] == 0 || one_in(4) ? 0 : bytes[DEPTH] - below(2);
+    for (unsigned k = 0; k < RECENT_ROWS; k++) {
+        uint8_t *r = recent(bytes, k);
+        uint8_t *other = recent(bytes, below(k + 1));
+        r[RECENCY] = other[RECENCY];
+        other[RECENCY] = (uint8_t)k;
+        made_register(bytes, r, frames);
+    }
+}
+
+/* Any sound A, pointers, frames and registers on a layout; one record in four stays fresh, one in four has been handed a list. */
 void made_state(uint8_t *bytes)
 {
     unsigned segments = bytes[SEGMENTS];
@@ -148,6 +198,9 @@ void made_state(uint8_t *bytes)
         made_frame(bytes + FRAMES + FRAME * f, segments, domains);
     if (handed)
         made_handed_list(bytes, segments);
+    if (bytes[DEPTH] >= 2)
+        made_older_argument(bytes, bytes + FRAMES + FRAME * (bytes[DEPTH] - 2u));
+    made_registers(bytes);
 }
 
 static uint32_t made_pointer_word(unsigned segments)
@@ -155,14 +208,21 @@ static uint32_t made_pointer_word(unsigned segments)
     return below(8) | below(segments) << 12 | (one_in(4) ? 1u << 31 : 0) | (one_in(32) ? 1u << 16 : 0);
 }
 
+/* An argument's pointer; one in two is to words of the list's segment. */
+static uint32_t made_argument(unsigned segment, unsigned segments)
+{
+    uint32_t word = made_pointer_word(segments);
+    return one_in(2) ? (word & ~0xF000u) | segment << 12 : word;
+}
+
 /* Number of arguments, return location, a gate, then pointers and modes in turn. */
-static uint32_t made_list_word(unsigned k, unsigned segments)
+static uint32_t made_list_word(unsigned segment, unsigned k, unsigned segments)
 {
     if (k == 0)
         return one_in(8) ? below(12) : below(4);
     if (k <= 2)
         return (one_in(2) ? below(4) : 0) | (uint32_t)made_segment(segments, false) << 12;
-    return k % 2 == 1 ? made_pointer_word(segments) : (1 + below(3)) << 30 | (1 + below(one_in(16) ? 5000 : 16));
+    return k % 2 == 1 ? made_argument(segment, segments) : (1 + below(3)) << 30 | (1 + below(one_in(16) ? 5000 : 16));
 }
 
 static uint32_t made_instruction(void)
@@ -176,7 +236,14 @@ static uint32_t made_instruction(void)
     return opcode << 24 | operand | (one_in(4) ? 0x8000 : 0) | base << 12 | offset;
 }
 
-/* After a := b often a CALL of the gate in b's list; else these, a RET to the caller, a JUMP to segment 0, HALT, any other. */
+/* A reference to a word near a, or through it. */
+static uint32_t made_reference(void)
+{
+    static const uint32_t opcodes[] = { LOAD, LOAD, STORE, ADD, SUB, SPP };
+    return opcodes[below(6)] << 24 | (one_in(3) ? INDIRECT : 0) | below(8);
+}
+
+/* After a := b often a CALL of the gate in b's list; else these, a RET to the caller, a JUMP to segment 0, HALT, a reference near a, any other. */
 static uint32_t made_code_word(uint32_t before, unsigned segments)
 {
     static const uint32_t often[] = { 0x05002000, 0x05002000, 0x05002000, 0x09008001, 0x07003000, 0x00000000 };
@@ -186,7 +253,7 @@ static uint32_t made_code_word(uint32_t before, unsigned segments)
         return often[below(sizeof often / sizeof often[0])];
     if (one_in(16))
         return one_in(2) ? draw() : made_pointer_word(segments);
-    return made_instruction();
+    return one_in(4) ? made_reference() : made_instruction();
 }
 
 /* Code often begins with a call, or with the return of one. */
@@ -198,18 +265,32 @@ static uint32_t made_first_word(unsigned segments)
 static uint32_t made_word(unsigned segment, unsigned k, uint32_t before, unsigned segments)
 {
     if (is_list(segment))
-        return made_list_word(k, segments);
+        return made_list_word(segment, k, segments);
     return k == 0 ? made_first_word(segments) : made_code_word(before, segments);
 }
 
-/* Where a is tagged, the next instruction is often a CALL of the gate in b's list. */
-static void made_next_word(const uint8_t *bytes, uint32_t *memory)
+/* The word of the stack's list that names a gate names one that may be called, if there is one. */
+static void made_gate_word(const uint8_t *bytes, uint32_t *memory)
+{
+    unsigned stack = bytes[STACKS + bytes[EXECUTING]];
+    unsigned gate = made_gate(bytes);
+    if (gate < bytes[SEGMENTS] && get16(bytes + LENGTHS + 2 * stack) > 2)
+        memory[base_of(bytes, stack) + 2] = gate << 12;
+}
+
+/* Where a is tagged, the next instruction is often a CALL of the gate in b's list, or some references come before it. */
+static void made_next_words(const uint8_t *bytes, uint32_t *memory)
 {
     unsigned segment = bytes[LOCATION + 2];
     unsigned word = get16(bytes + LOCATION);
-    if (bytes[POINTERS + 3] == 0 || segment >= bytes[SEGMENTS] || word >= get16(bytes + LENGTHS + 2 * segment) || one_in(4))
+    if (bytes[POINTERS + 3] == 0 || segment >= bytes[SEGMENTS] || one_in(8))
         return;
-    memory[base_of(bytes, segment) + word] = 0x0800A002;
+    unsigned length = get16(bytes + LENGTHS + 2 * segment);
+    unsigned references = one_in(2) ? 1 + below(5) : 0;
+    for (unsigned k = 0; k <= references && word + k < length; k++)
+        memory[base_of(bytes, segment) + word + k] = k < references ? made_reference() : 0x0800A002;
+    if (!one_in(8))
+        made_gate_word(bytes, memory);
 }
 
 void made_words(const uint8_t *bytes, uint32_t *memory)
@@ -223,7 +304,7 @@ void made_words(const uint8_t *bytes, uint32_t *memory)
             *to++ = word;
         }
     }
-    made_next_word(bytes, memory);
+    made_next_words(bytes, memory);
 }
 
 void made_soup(uint32_t *memory, size_t count)

@@ -1,6 +1,7 @@
 /* What the bytes of a record say that is sound, but for a dead gate. */
 #include <string.h>
 
+#include "capabilities.h"
 #include "fuzz.h"
 
 unsigned get16(const uint8_t *at)
@@ -60,6 +61,7 @@ void restarted(uint8_t *bytes)
 {
     uint8_t domain = bytes[START + 3];
     memset(bytes + REGISTERS, 0, RECORD - REGISTERS);
+    fresh_registers(bytes);
     memcpy(bytes + LOCATION, bytes + START, 3);
     bytes[EXECUTING] = domain;
     bytes[POINTERS + 4 * 2 + 2] = bytes[STACKS + domain];

@@ -5,7 +5,7 @@
 
 #include "fuzz.h"
 
-enum { FILE_BYTES = ZENKORV_LONGEST_IMAGE + 64, MADE = 128 };
+enum { FILE_BYTES = ZENKORV_LONGEST_IMAGE + 64, MADE = 256 };
 
 static uint8_t bytes[FILE_BYTES];
 static uint8_t held[RECORD];
@@ -102,7 +102,7 @@ static void of_image(const char *folder, const char *name, size_t length)
         char kind[16];
         snprintf(kind, sizeof kind, "later%u", k);
         zenkorv_stretch(held, RECORD, memory, WORDS, 30);
-        write_record(folder, name, kind, k);
+        write_record(folder, name, kind, 8 * k);
     }
 }
 

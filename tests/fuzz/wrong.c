@@ -23,7 +23,7 @@ static int wrong(int number)
 /* 19: every call takes a tag of register a above 1 for 0. Gives the tag that it took away, or 0. */
 static uint8_t take_tag(const uint8_t *record, size_t record_length)
 {
-    uint8_t tag = record_length < 919 || !wrong(19) ? 0 : record[233];
+    uint8_t tag = record_length < RECORD_LENGTH || !wrong(19) ? 0 : record[233];
     if (tag <= 1)
         return 0;
     ((uint8_t *)record)[233] = 0;
@@ -55,9 +55,9 @@ static struct {
 /* The number of a read into a machine of its own. */
 static uint8_t tried(const uint8_t *image, size_t image_length)
 {
-    static uint8_t record[919];
+    static uint8_t record[RECORD_LENGTH];
     static uint32_t words[8192];
-    return __real_zenkorv_read(image, image_length, record, 919, words, 8192);
+    return __real_zenkorv_read(image, image_length, record, RECORD_LENGTH, words, 8192);
 }
 
 static void see(const uint8_t *image, size_t image_length)
@@ -105,7 +105,7 @@ static uint8_t read_as_seen(const uint8_t *image, size_t image_length, uint8_t *
     uint8_t number = number_seen(image_length);
     if (number != 0)
         return number;
-    __real_zenkorv_read(seen.bytes, image_length, record, 919, words, 8192);
+    __real_zenkorv_read(seen.bytes, image_length, record, RECORD_LENGTH, words, 8192);
     for (unsigned s = 0; s < seen.count; s++)
         record[92 + 16 * seen.gates[s].domain + s] = seen.original[seen.gates[s].rights - seen.bytes];
     return 0;
@@ -124,13 +124,25 @@ static enum way way_of_records(void)
 }
 
 static uint8_t layout[222];
+static uint8_t registers[RECENT_BYTES];
+static bool registers_bent;
+
+/* 58: registers with the same number are accepted; 59: and so is one that may not be entered. */
+static void bend_registers(uint8_t *record)
+{
+    memcpy(registers, record + RECENT, RECENT_BYTES);
+    registers_bent = wrong(58) ? mend_numbers(record) : wrong(59) && mend_entries(record);
+}
 
 /* Before a call on a record: it is made one that is not sound where a gate is dead in the wrong way, else it is mended. */
 static void bend(const uint8_t *lent, size_t record_length)
 {
     struct gates gates[16];
     uint8_t *record = (uint8_t *)lent;
-    if (way_of_records() == AS_IT_IS || record_length < 919)
+    if (record_length < RECORD_LENGTH)
+        return;
+    bend_registers(record);
+    if (way_of_records() == AS_IT_IS)
         return;
     memcpy(layout, record, sizeof layout);
     unsigned count = gates_of_record(record, gates);
@@ -142,8 +154,26 @@ static void bend(const uint8_t *lent, size_t record_length)
 
 static void unbend(const uint8_t *lent, size_t record_length)
 {
-    if (way_of_records() != AS_IT_IS && record_length >= 919)
+    if (record_length < RECORD_LENGTH)
+        return;
+    if (registers_bent)
+        memcpy((uint8_t *)lent + RECENT, registers, RECENT_BYTES);
+    if (way_of_records() != AS_IT_IS)
         memcpy((uint8_t *)lent, layout, sizeof layout);
+}
+
+/* 45: in place of an entry a register of another frame rises; 46: one matches where the live frame has no match; 47: a return does not clear;
+   48: it clears, but keeps all numbers; 49: it turns the cleared ones round; 50: a fault renews the registers; 51: a list that may not be entered is;
+   52: no list is; 53: a match does not rise; 54: an entry goes to the lowest empty register; 55: arguments that are passed on renew. */
+static enum slip slip_of_registers(void)
+{
+    if (wrong(45) || wrong(46))
+        return wrong(45) ? OTHER_RISES : OTHER_MATCHES;
+    if (wrong(47) || wrong(48) || wrong(49))
+        return wrong(47) ? NOT_CLEARED : wrong(48) ? NUMBERS_KEPT : TURNED_ROUND;
+    if (wrong(50) || wrong(51) || wrong(52))
+        return wrong(50) ? RENEWED_AT_FAULT : wrong(51) ? ENTERED_ANYWAY : LIST_LEFT_OUT;
+    return wrong(53) ? MATCH_STAYS : wrong(54) ? LOWEST_EMPTY : wrong(55) ? RENEWED_BY_ARGUMENTS : NO_SLIP;
 }
 
 /* 38: the source of a list at a tagged a is the caller; 39: or that of the last capability that covers it; 40: a list is lent to be written too;
@@ -154,21 +184,21 @@ static enum slip slip(void)
         return wrong(38) ? CALLER_AS_SOURCE : LAST_AS_SOURCE;
     if (wrong(40) || wrong(41) || wrong(42))
         return wrong(40) ? LIST_WITH_W : wrong(41) ? WORD_SHORT : NOT_COVERED;
-    return wrong(43) ? ARGUMENTS_WITH_W : wrong(44) ? S_UNTAGGED : NO_SLIP;
+    return wrong(43) ? ARGUMENTS_WITH_W : wrong(44) ? S_UNTAGGED : slip_of_registers();
 }
 
 /* 1: a refused read leaves a byte of the record behind; 2: an accepted one writes past the record; 3: or past the segments; 34: one refused with 10 writes a word. */
 WRAPPED(uint8_t, read, const uint8_t *image, size_t image_length, uint8_t *record, size_t record_length, uint32_t *words, size_t word_count)
 {
-    if (sees_images_wrong() && record_length >= 919 && word_count >= 8192)
+    if (sees_images_wrong() && record_length >= RECORD_LENGTH && word_count >= 8192)
         return read_as_seen(image, image_length, record, words);
     uint8_t number = __real_zenkorv_read(image, image_length, record, record_length, words, word_count);
     if (wrong(34) && number == 10)
         words[0] ^= 1;
     if (wrong(1) && number == 4)
         record[300] ^= 1;
-    if (wrong(2) && number == 0 && record_length > 919)
-        record[919] ^= 1;
+    if (wrong(2) && number == 0 && record_length > RECORD_LENGTH)
+        record[RECORD_LENGTH] ^= 1;
     if (wrong(3) && number == 0 && words[8191] != 0)
         words[8191] ^= 1;
     return number;
@@ -187,7 +217,7 @@ WRAPPED(uint32_t, run, uint8_t *record, size_t record_length, uint32_t *words, s
     if (code >> 24 == 4)
         put_back(record, tag_taken);
     if (wrong(4) && code == 0x4090000)
-        record[918] ^= 1;
+        record[RECORD_LENGTH - 1] ^= 1;
     if (wrong(5) && code >> 24 == 0)
         record[233] = 2;
     return wrong(6) && code >> 24 == 1 ? code + 1 : code;
@@ -317,7 +347,14 @@ WRAPPED(uint8_t, segment, const uint8_t *record, size_t record_length, const uin
     return number;
 }
 
-/* 14: a right to read is taken for one to write; 15: a tagged check gives another number. */
+/* A register of another frame than the live one covers a word. */
+static bool other_has(const uint8_t *record, uint8_t write, uint8_t segment, uint16_t word)
+{
+    const uint8_t made[CAPABILITY] = { (uint8_t)word, (uint8_t)(word >> 8), 1, 0, segment, 0, write == 0, write != 0 };
+    return other_covering(record, made) != RECENT_ROWS;
+}
+
+/* 14: a right to read is taken for one to write; 15: a tagged check gives another number; 56: it takes a register of another frame for a match. */
 WRAPPED(uint32_t, check, const uint8_t *record, size_t record_length, uint8_t write, uint8_t tag, uint8_t segment, uint16_t word)
 {
     uint8_t tag_taken = take_tag(record, record_length);
@@ -325,21 +362,26 @@ WRAPPED(uint32_t, check, const uint8_t *record, size_t record_length, uint8_t wr
     uint32_t code = __real_zenkorv_check(record, record_length, wrong(14) ? 0 : write, tag, segment, word);
     unbend(record, record_length);
     put_back(record, tag_taken);
+    if (wrong(56) && code == 0x10000 + 24 && other_has(record, write, segment, word))
+        return 0x10000 + 25;
     return wrong(15) && code == 0x10000 + 25 ? 0x10000 + 22 : code;
 }
 
-/* 16: A stays. */
+/* 16: A stays; 57: the numbers of the registers stay. */
 WRAPPED(uint8_t, restart, uint8_t *record, size_t record_length)
 {
     uint8_t tag_taken = take_tag(record, record_length);
-    uint8_t a = record_length < 919 ? 0 : record[222];
+    uint8_t before[RECORD_LENGTH];
+    memcpy(before, record, record_length < RECORD_LENGTH ? record_length : RECORD_LENGTH);
     bend(record, record_length);
     uint8_t number = __real_zenkorv_restart(record, record_length);
     unbend(record, record_length);
     if (number != 0)
         put_back(record, tag_taken);
     if (wrong(16) && number == 0)
-        record[222] = a;
+        record[222] = before[222];
+    if (wrong(57) && number == 0)
+        keep_numbers(before, record);
     return number;
 }
 

@@ -15,7 +15,7 @@ pub enum Kind {
     DeadGate,
     /// With other garbage, mostly not sound.
     Garbage,
-    /// Of fewer than 919 bytes.
+    /// Of fewer than 1,079 bytes.
     Short,
 }
 

@@ -12,6 +12,7 @@ pub mod library;
 pub mod logs;
 pub mod programs;
 mod references;
+pub mod registers;
 pub mod runs;
 mod state;
 

@@ -54,7 +54,7 @@ fn sound() -> LogPair {
 #[test]
 fn a_difference_is_seen() {
     assert!(sound().call().is_ok());
-    for place in [0, 262, 918] {
+    for place in [0, 262, 918, 919, 1078] {
         let mut other = sound();
         other.states.library.record[place] ^= 1;
         assert!(other.call().is_err(), "byte {place} of the record");

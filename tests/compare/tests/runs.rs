@@ -11,7 +11,7 @@ fn batch(all: &mut Comparison) -> Result<(), String> {
     all.short_records()?;
     all.changed_bytes(2)?;
     all.garbage(300)?;
-    all.instructions(0..2000)?;
+    all.instructions(0..3000)?;
     all.generated(0..2000)?;
     all.damaged(0..1000)
 }
@@ -41,6 +41,7 @@ fn the_runs_agree() {
     assert!(reached.frames[8] >= 50, "eight frames\n{tally}");
     assert!(reached.tagged_returns >= 1000, "returns\n{tally}");
     reaches_handed_on_lists(tally);
+    reaches_the_registers(tally);
     for kind in [Kind::Halted, Kind::Faulted, Kind::Spent, Kind::Refused] {
         let few = tally.of(kind).iter().any(|&count| count < 50);
         assert!(!few, "few of {kind:?}\n{tally}");
@@ -67,6 +68,16 @@ fn reaches_handed_on_lists(tally: &Tally) {
     assert!(handed_on.last_frame >= 20, "the last frame\n{tally}");
 }
 
+/// The registers must be used in each way.
+fn reaches_the_registers(tally: &Tally) {
+    let recents = &tally.reached.recents;
+    assert!(recents.rereads >= 300, "registers' matches\n{tally}");
+    assert!(recents.older_replaced >= 50, "replaced\n{tally}");
+    assert!(recents.not_entered >= 50, "not entered\n{tally}");
+    assert!(recents.fault_between >= 50, "faults between\n{tally}");
+    assert!(recents.cleared >= 300, "cleared\n{tally}");
+}
+
 #[test]
 fn a_state_that_differs_is_seen() {
     library::linked().unwrap_or_else(|missing| panic!("{missing}"));
@@ -74,7 +85,7 @@ fn a_state_that_differs_is_seen() {
     state.record.extend([1, 2]);
     let mut pair = Pair::new(&state);
     assert_eq!(pair.call(Call::Run(0)), Ok(code(Kind::Spent, 0, 0)));
-    for place in [0, 300, 918, 919, 920] {
+    for place in [0, 262, 918, 919, 1000, 1077, 1078, 1079, 1080] {
         let mut other = pair.clone();
         other.library.record[place] ^= 1;
         assert!(other.call(Call::Run(0)).is_err(), "byte {place}");

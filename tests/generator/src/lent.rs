@@ -1,22 +1,21 @@
 //! Bytes that a host may lend as a record: sound records, and garbage.
 
 use crate::random::Rng;
+use crate::recent::spoil_a_register;
 use crate::records::{self, Snapshot};
 use assembler::E;
+use reference::bytes::{CAPABILITY_BYTES, FRAME_BYTES, FRAME_ROWS, RECENT_BYTES, RECENT_ROWS};
+use reference::recent::{Recent, REGISTERS};
 use reference::record::{Capability, Frame, Machine, CAPABILITIES, DOMAINS, FRAMES, SEGMENTS};
 use reference::words::Pointer;
 use reference::{machine_from_bytes, record_bytes, Refusal, RECORD_BYTES};
 use std::ops::Range;
 
-/// Where the gates, the rights, the pointers, frames and their parts lie in a
-/// record.
+/// Where the gates, the rights and the pointers lie in a record.
 const GATES: usize = 32;
 const GATE_DOMAINS: usize = 68;
 const RIGHTS: usize = 92;
 const POINTERS: usize = 230;
-const FRAME_ROWS: usize = 263;
-const FRAME_BYTES: usize = 82;
-const CAPABILITY_BYTES: usize = 8;
 
 /// Bytes with words, and the sound machine that they were made of.
 #[derive(Clone, Debug)]
@@ -103,26 +102,27 @@ pub fn is_dead_gate_alone(bytes: &[u8]) -> bool {
     machine_from_bytes(&mended).is_ok()
 }
 
-/// 919 bytes of which most are no sound record; a quarter are one but for a
-/// dead gate.
+/// 1,079 bytes of which most are no sound record; a quarter are one but for a
+/// dead gate, and some have a changed register.
 pub fn garbage(rng: &mut Rng) -> Lent {
     if rng.chance(25) {
         return dead_gate(rng);
     }
     let mut lent = sound(rng);
     let bytes = &mut lent.bytes;
-    match rng.below(20) {
+    match rng.below(25) {
         0 | 1 => bytes.fill_with(|| rng.next() as u8),
         2 => bytes.fill(0xEE),
         3..=5 => spoil_a_flag(rng, bytes),
         6..=9 => spoil_an_unused_row(rng, &lent.machine, bytes),
         10 | 11 => *bytes = record_bytes(&garbage_machine(rng)),
+        12..=16 => spoil_a_register(rng, &lent.machine, bytes),
         _ => replace_some(rng, bytes),
     }
     lent
 }
 
-/// Fewer than 919 bytes, mostly of a sound record.
+/// Fewer than 1,079 bytes, mostly of a sound record.
 pub fn short(rng: &mut Rng) -> Lent {
     let make = rng.pick(&[sound as fn(&mut Rng) -> Lent, garbage]);
     let mut lent = make(rng);
@@ -147,7 +147,7 @@ fn spoil_a_flag(rng: &mut Rng, bytes: &mut [u8]) {
 }
 
 /// Where the flags lie: tags of the pointers; of each frame those of its
-/// capabilities, s and return location.
+/// capabilities, s and return location; of each register its capability's.
 pub fn flags() -> Vec<usize> {
     let pointers = (0..8).map(|row| POINTERS + 4 * row + 3);
     let frames = (0..FRAMES).flat_map(|row| {
@@ -158,7 +158,11 @@ pub fn flags() -> Vec<usize> {
         });
         capabilities.chain([frame + 76, frame + 80])
     });
-    pointers.chain(frames).collect()
+    let registers = (1..=REGISTERS).flat_map(|row| {
+        let end = RECENT_ROWS + RECENT_BYTES * row;
+        [end - 4, end - 3]
+    });
+    pointers.chain(frames).chain(registers).collect()
 }
 
 /// Makes a byte of a row that is not in use other than 0.
@@ -171,7 +175,7 @@ fn spoil_an_unused_row(rng: &mut Rng, machine: &Machine, bytes: &mut [u8]) {
 
 /// Where the rows lie that a sound machine does not use: frames past the
 /// frames, capabilities past a frame's, segments past the segments, domains
-/// past the domains.
+/// past the domains, and of an empty register all but its recency number.
 pub fn unused(machine: &Machine) -> Vec<usize> {
     let depth = usize::from(machine.frame_count);
     let frame = |row: usize| FRAME_ROWS + FRAME_BYTES * row;
@@ -180,6 +184,12 @@ pub fn unused(machine: &Machine) -> Vec<usize> {
         let capability = |k: usize| frame(row) + 1 + CAPABILITY_BYTES * k;
         let count = usize::from(used.capability_count);
         places.extend(capability(count)..capability(CAPABILITIES));
+    }
+    for (row, register) in machine.recent.iter().enumerate() {
+        let first = RECENT_ROWS + RECENT_BYTES * row;
+        if register.frame == 0 {
+            places.extend(first..=first + CAPABILITY_BYTES);
+        }
     }
     let segments = usize::from(machine.segment_count)..SEGMENTS;
     let domains = usize::from(machine.domain_count)..DOMAINS;
@@ -225,6 +235,7 @@ fn garbage_machine(rng: &mut Rng) -> Machine {
     machine.location.segment = place.segment;
     machine.location.word = place.word;
     machine.frames = machine.frames.map(|_| garbage_frame(rng));
+    machine.recent = machine.recent.map(|_| garbage_register(rng));
     machine
 }
 
@@ -235,6 +246,14 @@ fn garbage_frame(rng: &mut Rng) -> Frame {
         s: garbage_pointer(rng),
         domain: rng.next() as u8,
         capabilities: [(); CAPABILITIES].map(|()| garbage_capability(rng)),
+    }
+}
+
+fn garbage_register(rng: &mut Rng) -> Recent {
+    Recent {
+        capability: garbage_capability(rng),
+        frame: rng.next() as u8,
+        recency: rng.below(20) as u8,
     }
 }
 

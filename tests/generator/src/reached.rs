@@ -1,6 +1,7 @@
 //! What a batch of images reached when the reference ran them.
 
-use crate::handed_on::{Before, HandedOn};
+use crate::handed_on::{self, HandedOn};
+use crate::recent::{self, Recents};
 use crate::records::fetch_check;
 use crate::DeadGates;
 use reference::record::{ARGUMENT_POINTER, SEGMENTS};
@@ -44,6 +45,8 @@ pub struct Reached {
     pub tagged_returns: u64,
     /// Runs by their calls with a tagged a.
     pub handed_on: HandedOn,
+    /// Runs by what they did with the registers.
+    pub recents: Recents,
     pub passed_on: u64,
     pub tagged_indirect: u64,
     /// Runs by the most frames that were in use.
@@ -96,10 +99,10 @@ impl Reached {
         let first_words = first_words(machine);
         let mut processor = Processor::new(machine, memory)?;
         let (mut count, mut frames, mut crossings) = (0, 0, 0);
-        let mut handed_on = HandedOn::default();
+        let mut in_run = (HandedOn::default(), Recents::default());
         let mut ending = Ending::Spent;
         while count < limit && ending == Ending::Spent {
-            let outcome = self.observe_step(&mut processor, &first_words, &mut handed_on);
+            let outcome = self.observe_step(&mut processor, &first_words, &mut in_run);
             crossings += u32::from(outcome.is_ok_and(Completed::is_crossing));
             match outcome {
                 Err(fault) => ending = Ending::Faulted(fault),
@@ -112,7 +115,9 @@ impl Reached {
             count += u16::from(ending.fault() == 0);
             frames = frames.max(processor.machine().frame_count);
         }
+        let (handed_on, recents) = in_run;
         self.handed_on.add_run(&handed_on);
+        self.recents.add_run(recents);
         self.count_ending(ending, count, frames);
         self.count_crossings(crossings, ending, processor.machine());
         Ok(Run { ending, count })
@@ -146,7 +151,7 @@ impl Reached {
         &mut self,
         processor: &mut Processor,
         first_words: &[usize; SEGMENTS],
-        handed_on: &mut HandedOn,
+        (handed_on, recents): &mut (HandedOn, Recents),
     ) -> Result<Completed, Fault> {
         let at = processor.machine().location;
         let address = first_words[usize::from(at.segment)] + usize::from(at.word);
@@ -160,9 +165,12 @@ impl Reached {
             self.count_fault(outcome.err(), 13);
             return outcome;
         };
-        let before = Before::new(processor.machine(), processor.memory(), instruction);
+        let (machine, memory) = (processor.machine(), processor.memory());
+        let before = handed_on::Before::new(machine, memory, instruction);
+        let recent = recent::Before::new(machine, memory, instruction);
         let outcome = processor.step();
         handed_on.count(before, outcome);
+        recents.count(recent, outcome, processor.machine());
         let opcode = instruction.opcode as usize;
         self.count_fault(outcome.err(), opcode);
         let completed = outcome?;
@@ -204,7 +212,7 @@ impl Reached {
         row(out, "crossing calls by arguments", 0.., &self.calls)?;
         row(out, "runs by most frames in use", 0.., &self.frames)?;
         writeln!(out, "calls inside a domain {}", self.calls_inside)?;
-        write!(out, "{}", self.handed_on)?;
+        write!(out, "{}{}", self.handed_on, self.recents)?;
         writeln!(out, "tagged returns {}", self.tagged_returns)?;
         writeln!(out, "passed-on arguments {}", self.passed_on)?;
         writeln!(out, "tagged indirect reads {}", self.tagged_indirect)

@@ -2,6 +2,7 @@
 
 use crate::program;
 use crate::random::Rng;
+use crate::recent::{fill, mend};
 use assembler::E;
 use reference::checks::{static_check, Flag};
 use reference::record::{Capability, Frame, Machine, CAPABILITIES, FRAMES, SEGMENTS};
@@ -34,7 +35,8 @@ pub fn mid_run(rng: &mut Rng) -> Snapshot {
 }
 
 /// A sound record that need not be one that a run can reach: a mid-run one
-/// with some fields changed inside their ranges.
+/// with some fields changed inside their ranges. A register that a change of the
+/// frames leaves with what it may not hold is emptied.
 pub fn sound(rng: &mut Rng) -> Snapshot {
     if rng.chance(4) {
         return cannot_execute(rng);
@@ -44,6 +46,7 @@ pub fn sound(rng: &mut Rng) -> Snapshot {
     for _ in 0..rng.between(1, 4) {
         change_in_range(rng, machine);
     }
+    mend(machine);
     snapshot
 }
 
@@ -99,7 +102,7 @@ pub fn executable_place(rng: &mut Rng, machine: &mut Machine) -> usize {
 fn change_in_range(rng: &mut Rng, machine: &mut Machine) {
     let domains = u32::from(machine.domain_count);
     let segments = u32::from(machine.segment_count);
-    match rng.below(7) {
+    match rng.below(9) {
         0 => {
             let domain = rng.below(domains) as u8;
             let segment = rng.below(segments) as usize;
@@ -119,6 +122,7 @@ fn change_in_range(rng: &mut Rng, machine: &mut Machine) {
         }
         4 => machine.domain = rng.below(domains) as u8,
         5 => change_location(rng, machine),
+        6 | 7 => fill(rng, machine),
         _ => change_capability(rng, machine),
     }
 }

@@ -4,12 +4,14 @@
 use assembler::E;
 use generator::handed_on::{about_to_hand_on, next_list, Found, HandedOn, UNCOVERED};
 use generator::lent::{self, Lent};
+use generator::recent::{about_to_refer, spoil_a_register, Recents};
 use generator::records::{self, Snapshot};
 use generator::{image, made, made_damaged, DeadGate, DeadGates, Made};
 use generator::{Reached, Rng, DEAD_GATES, LIMIT, REFUSALS};
+use reference::recent::REGISTERS;
 use reference::record::Domain;
 use reference::words::OPCODES;
-use reference::{host, is_sound, machine_from_bytes, record_bytes, run, step, Refusal};
+use reference::{host, is_sound, machine_from_bytes, record_bytes, run, step, Machine, Refusal};
 
 #[test]
 fn a_batch_reaches_every_part() {
@@ -44,6 +46,7 @@ fn a_batch_reaches_every_part() {
     assert!(reached.passed_on >= 200, "passed on");
     assert!(reached.tagged_indirect >= 1000, "tagged indirect reads");
     reaches_handed_on_lists(&reached.handed_on);
+    reaches_the_registers(&reached.recents);
     assert!(2 * reached.twenty > reached.images, "twenty instructions");
     for (bucket, count) in reached.crossings.iter().enumerate() {
         assert!(*count >= 300, "crossings, bucket {bucket}: {count}");
@@ -71,6 +74,22 @@ fn reaches_handed_on_lists(handed_on: &HandedOn) {
     }
     let last = handed_on.last_frame;
     assert!(last >= 50, "into the last frame: {last}");
+}
+
+/// Of 100,000 images at least 1,000 must do each thing with the registers; here
+/// are 20,000.
+fn reaches_the_registers(recents: &Recents) {
+    for (what, count) in [
+        ("an argument by a register", recents.rereads),
+        ("an older frame's register replaced", recents.older_replaced),
+        ("a match not entered", recents.not_entered),
+        ("a fault between two references", recents.fault_between),
+        ("registers cleared", recents.cleared),
+    ] {
+        assert!(count >= 200, "{what}: {count}");
+    }
+    let list = recents.list_not_entered;
+    assert!(list >= 20, "a list not entered: {list}");
 }
 
 /// What an image says of its gates.
@@ -328,7 +347,7 @@ fn sound_records_are_not_said_to_have_dead_gates() {
         }
         assert!(!lent::is_dead_gate_alone(&lent::short(&mut rng).bytes));
     }
-    assert!(!lent::is_dead_gate_alone(&[0xEE; 919]));
+    assert!(!lent::is_dead_gate_alone(&[0xEE; reference::RECORD_BYTES]));
 }
 
 #[test]
@@ -362,4 +381,74 @@ fn short_records_are_short() {
         let lent = lent::short(&mut rng);
         assert_eq!(machine_from_bytes(&lent.bytes), Err(Refusal::ShortOutput));
     }
+}
+
+/// How many registers of a machine are filled.
+fn filled(machine: &Machine) -> usize {
+    machine.recent.iter().filter(|row| row.frame != 0).count()
+}
+
+#[test]
+fn records_have_registers_of_all_kinds() {
+    let mut rng = Rng::new(19, 0);
+    let (mut older, mut full, mut twice) = (0, 0, 0);
+    for _ in 0..3000 {
+        for Snapshot { machine, .. } in [records::mid_run(&mut rng), records::sound(&mut rng)] {
+            let rows = machine.recent.iter().filter(|row| row.frame != 0);
+            let mut held: Vec<_> = rows.map(|row| (row.frame, row.capability)).collect();
+            older += u32::from(held.iter().any(|row| row.0 < machine.frame_count));
+            full += u32::from(held.len() == REGISTERS);
+            let count = held.len();
+            held.sort_by_key(|(frame, row)| (*frame, row.segment, row.word, row.length));
+            held.dedup();
+            twice += u32::from(held.len() < count);
+        }
+    }
+    assert!(older >= 500, "{older} with an older frame's");
+    assert!(full >= 100, "{full} with all filled");
+    assert!(twice >= 200, "{twice} with the same twice");
+}
+
+#[test]
+fn changed_registers_are_sound_or_not() {
+    let mut rng = Rng::new(20, 0);
+    let (mut stayed, mut sound, mut unsound) = (0, 0, 0);
+    for _ in 0..5000 {
+        let mut lent = lent::sound(&mut rng);
+        let before = lent.bytes.clone();
+        spoil_a_register(&mut rng, &lent.machine, &mut lent.bytes);
+        match machine_from_bytes(&lent.bytes) {
+            _ if lent.bytes == before => stayed += 1,
+            Ok(machine) => {
+                assert_eq!(record_bytes(&machine), lent.bytes);
+                sound += 1;
+            }
+            Err(refusal) => {
+                assert_eq!(refusal, Refusal::NotSound);
+                unsound += 1;
+            }
+        }
+    }
+    assert!(sound >= 500, "{sound} sound, {stayed} as they were");
+    assert!(unsound >= 1500, "{unsound} not sound");
+}
+
+#[test]
+fn records_about_to_refer_are_sound_and_reach_the_registers() {
+    let mut rng = Rng::new(21, 0);
+    let mut reached = Reached::default();
+    let mut with_registers = 0;
+    for _ in 0..5000 {
+        let mut start = about_to_refer(&mut rng);
+        assert!(is_sound(&start.machine));
+        with_registers += u32::from(filled(&start.machine) > 0);
+        let ran = reached.observe_run(&mut start.machine, &mut start.memory, 1, false);
+        assert!(ran.is_ok());
+    }
+    let recents = &reached.recents;
+    assert!(with_registers >= 3000, "{with_registers}");
+    assert!(recents.rereads >= 300, "{recents}");
+    assert!(recents.older_replaced >= 50, "{recents}");
+    assert!(recents.not_entered >= 200, "{recents}");
+    assert!(recents.fault_between >= 200, "{recents}");
 }

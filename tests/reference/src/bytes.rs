@@ -1,4 +1,4 @@
-//! The machine record as 919 bytes, each part at a fixed place.
+//! The machine record as 1,079 bytes, each part at a fixed place.
 //!
 //! | from byte | what is there |
 //! |---|---|
@@ -11,13 +11,16 @@
 //! | 230 | eight pointers of 4 bytes: word (2), segment, tag |
 //! | 262 | how many frames are in use |
 //! | 263 | eight frames of 82 bytes |
+//! | 919 | sixteen registers of recent capabilities, of 10 bytes |
 //!
 //! In a frame: how many capabilities (0), nine capabilities of 8 bytes (1), s
 //! (73), return location (77), calling domain (81). A capability: word (2),
-//! length (2), segment, source, read, write. Numbers are little-endian. Flags
-//! are 0 or 1, rows not in use are zeros.
+//! length (2), segment, source, read, write. A register: a capability, the number
+//! of its frame (8), its recency number (9). Numbers are little-endian. Flags are
+//! 0 or 1, rows not in use are zeros.
 
 use crate::numbers::Refusal;
+use crate::recent::{Recent, REGISTERS};
 use crate::record::{
     Capability, Domain, Frame, Location, Machine, Segment, CAPABILITIES, DOMAINS, FRAMES, SEGMENTS,
 };
@@ -25,7 +28,7 @@ use crate::soundness::is_sound;
 use crate::words::Pointer;
 
 /// Bytes of a record.
-pub const RECORD_BYTES: usize = 919;
+pub const RECORD_BYTES: usize = 1079;
 
 const LENGTHS: usize = 0;
 const GATES: usize = 32;
@@ -39,12 +42,16 @@ const A: usize = 222;
 const LOCATION: usize = 226;
 const DOMAIN: usize = 229;
 const POINTERS: usize = 230;
-const DEPTH: usize = 262;
-const FRAME_ROWS: usize = 263;
+/// Where the number of frames in use, the frames and the registers lie.
+pub const DEPTH: usize = 262;
+pub const FRAME_ROWS: usize = 263;
+pub const RECENT_ROWS: usize = 919;
 
 const POINTER_BYTES: usize = 4;
-const CAPABILITY_BYTES: usize = 8;
-const FRAME_BYTES: usize = 82;
+/// Bytes of a capability, of a frame and of a register.
+pub const CAPABILITY_BYTES: usize = 8;
+pub const FRAME_BYTES: usize = 82;
+pub const RECENT_BYTES: usize = 10;
 const FRAME_CAPABILITIES: usize = 1;
 const FRAME_S: usize = 73;
 const FRAME_RETURN: usize = 77;
@@ -57,7 +64,7 @@ pub fn record_bytes(machine: &Machine) -> Vec<u8> {
     bytes
 }
 
-/// Puts the record into the first 919 bytes, which are there.
+/// Puts the record into the first 1,079 bytes, which are there.
 pub fn put_record(machine: &Machine, bytes: &mut [u8]) {
     let bytes = &mut bytes[..RECORD_BYTES];
     for (row, segment) in machine.segments.iter().enumerate() {
@@ -85,6 +92,12 @@ pub fn put_record(machine: &Machine, bytes: &mut [u8]) {
     for (bytes, frame) in frames.zip(&machine.frames) {
         put_frame(bytes, frame);
     }
+    let registers = bytes[RECENT_ROWS..].chunks_exact_mut(RECENT_BYTES);
+    for (bytes, row) in registers.zip(&machine.recent) {
+        put_capability(bytes, &row.capability);
+        bytes[CAPABILITY_BYTES] = row.frame;
+        bytes[CAPABILITY_BYTES + 1] = row.recency;
+    }
 }
 
 fn put_pair(bytes: &mut [u8], at: usize, value: u16) {
@@ -102,23 +115,27 @@ fn put_pointer(bytes: &mut [u8], at: usize, pointer: Pointer) {
     bytes[at + 3] = u8::from(pointer.tag);
 }
 
+fn put_capability(bytes: &mut [u8], capability: &Capability) {
+    put_pair(bytes, 0, capability.word);
+    put_pair(bytes, 2, capability.length);
+    bytes[4] = capability.segment;
+    bytes[5] = capability.source;
+    bytes[6] = u8::from(capability.read);
+    bytes[7] = u8::from(capability.write);
+}
+
 fn put_frame(bytes: &mut [u8], frame: &Frame) {
     bytes[0] = frame.capability_count;
     let rows = bytes[FRAME_CAPABILITIES..FRAME_S].chunks_exact_mut(CAPABILITY_BYTES);
     for (bytes, capability) in rows.zip(&frame.capabilities) {
-        put_pair(bytes, 0, capability.word);
-        put_pair(bytes, 2, capability.length);
-        bytes[4] = capability.segment;
-        bytes[5] = capability.source;
-        bytes[6] = u8::from(capability.read);
-        bytes[7] = u8::from(capability.write);
+        put_capability(bytes, capability);
     }
     put_pointer(bytes, FRAME_S, frame.s);
     put_pointer(bytes, FRAME_RETURN, frame.return_location);
     bytes[FRAME_DOMAIN] = frame.domain;
 }
 
-/// The record that bytes begin with: 8 for fewer than 919, 9 where no sound
+/// The record that bytes begin with: 8 for fewer than 1,079, 9 where no sound
 /// record has these bytes.
 pub fn machine_from_bytes(bytes: &[u8]) -> Result<Machine, Refusal> {
     let machine = unjudged(bytes)?;
@@ -129,7 +146,7 @@ pub fn machine_from_bytes(bytes: &[u8]) -> Result<Machine, Refusal> {
 }
 
 /// The fields that bytes begin with, whose soundness is still to be judged: 8
-/// for fewer than 919, 9 for a flag above 1. Each byte is part of a field, so
+/// for fewer than 1,079, 9 for a flag above 1. Each byte is part of a field, so
 /// only the bytes of a sound record give one.
 pub(crate) fn unjudged(bytes: &[u8]) -> Result<Machine, Refusal> {
     let bytes = bytes.get(..RECORD_BYTES).ok_or(Refusal::ShortOutput)?;
@@ -156,6 +173,10 @@ fn fields(bytes: &[u8]) -> Option<Machine> {
     let rows = bytes[FRAME_ROWS..].chunks_exact(FRAME_BYTES);
     for (to, bytes) in machine.frames.iter_mut().zip(rows) {
         *to = frame(bytes)?;
+    }
+    let rows = bytes[RECENT_ROWS..].chunks_exact(RECENT_BYTES);
+    for (to, bytes) in machine.recent.iter_mut().zip(rows) {
+        *to = recent(bytes)?;
     }
     Some(machine)
 }
@@ -214,6 +235,14 @@ fn capability(bytes: &[u8]) -> Option<Capability> {
     })
 }
 
+fn recent(bytes: &[u8]) -> Option<Recent> {
+    Some(Recent {
+        capability: capability(bytes)?,
+        frame: bytes[CAPABILITY_BYTES],
+        recency: bytes[CAPABILITY_BYTES + 1],
+    })
+}
+
 fn frame(bytes: &[u8]) -> Option<Frame> {
     let mut frame = Frame {
         capability_count: bytes[0],
@@ -232,7 +261,10 @@ fn frame(bytes: &[u8]) -> Option<Frame> {
 /// The parts fill the record.
 const _: () = {
     assert!(POINTERS + 8 * POINTER_BYTES == DEPTH);
+    assert!(DEPTH + 1 == FRAME_ROWS);
+    assert!(CAPABILITY_BYTES + 2 == RECENT_BYTES);
     assert!(FRAME_CAPABILITIES + CAPABILITIES * CAPABILITY_BYTES == FRAME_S);
     assert!(RIGHTS + DOMAINS * SEGMENTS == SEGMENT_COUNT);
-    assert!(FRAME_ROWS + FRAMES * FRAME_BYTES == RECORD_BYTES);
+    assert!(FRAME_ROWS + FRAMES * FRAME_BYTES == RECENT_ROWS);
+    assert!(RECENT_ROWS + REGISTERS * RECENT_BYTES == RECORD_BYTES);
 };

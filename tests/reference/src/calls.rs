@@ -3,6 +3,7 @@
 use crate::checks::{has_flag, pass_on, static_check, word_exists, Flag};
 use crate::instructions::Completed;
 use crate::numbers::Fault;
+use crate::recent;
 use crate::record::{
     Capability, Frame, Location, ACTIVATION_POINTER, ARGUMENT_POINTER, FRAMES, STACK_BASE,
 };
@@ -66,9 +67,13 @@ impl Processor<'_> {
             return Err(Fault::NoFreeFrame);
         }
         let frame = self.new_frame()?;
+        self.renew();
         let machine = &mut *self.machine;
         machine.frames[usize::from(machine.frame_count)] = frame;
         machine.frame_count += 1;
+        if self.uses_registers {
+            recent::enter_list(machine);
+        }
         machine.pointers[ARGUMENT_POINTER].tag = true;
         machine.domain = row.gate_domain;
         self.go_to(target);
@@ -78,7 +83,7 @@ impl Processor<'_> {
 
     /// The frame that the argument list at a asks for. Each word is judged
     /// before the next is read.
-    fn new_frame(&self) -> Result<Frame, Fault> {
+    fn new_frame(&mut self) -> Result<Frame, Fault> {
         let n = self.list_word(0)?;
         if n > ARGUMENTS {
             return Err(Fault::BadList);
@@ -110,12 +115,12 @@ impl Processor<'_> {
     }
 
     /// Word `k` of the argument list, read by the caller under a's tag.
-    fn list_word(&self, k: i16) -> Result<u32, Fault> {
+    fn list_word(&mut self, k: i16) -> Result<u32, Fault> {
         self.load(self.list_pointer(k)?)
     }
 
     /// The capability for argument `k`.
-    fn argument(&self, k: i16) -> Result<Capability, Fault> {
+    fn argument(&mut self, k: i16) -> Result<Capability, Fault> {
         let pointer = Pointer::from_word(self.list_word(3 + 2 * k)?)?;
         let mode = Mode::from_word(self.list_word(4 + 2 * k)?, pointer.word)?;
         let source = self.source(pointer, mode)?;
@@ -160,7 +165,11 @@ impl Processor<'_> {
             target.word,
             Flag::Execute,
         )?;
+        self.renew();
         let machine = &mut *self.machine;
+        if self.uses_registers {
+            recent::clear(&mut machine.recent, machine.frame_count);
+        }
         machine.frame_count -= 1;
         machine.frames[usize::from(machine.frame_count)] = Frame::default();
         machine.pointers[ACTIVATION_POINTER] = s;

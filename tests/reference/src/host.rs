@@ -8,6 +8,7 @@ use crate::checks::{check_reference, Flag};
 use crate::crossings::{logged, LOG_BYTES};
 use crate::image::{self, read_image, write_image};
 use crate::numbers::Refusal;
+use crate::recent::{self, Reference};
 use crate::record::Machine;
 use crate::run::{self, Processor, Run};
 use crate::words::Pointer;
@@ -142,7 +143,8 @@ fn first_word(machine: &Machine, segment: u8) -> u32 {
 }
 
 /// The index of the word that the executing domain refers to, or a refusal.
-/// Any `write` but 0 asks to write, any `tag` but 0 is on.
+/// Any `write` but 0 asks to write, any `tag` but 0 is on. The registers are
+/// looked at and stay.
 pub fn check(record: &[u8], write: u8, tag: u8, segment: u8, word: u16) -> u32 {
     let machine = match machine_from_bytes(record) {
         Err(refusal) => return REFUSED + u32::from(refusal.number()),
@@ -150,7 +152,12 @@ pub fn check(record: &[u8], write: u8, tag: u8, segment: u8, word: u16) -> u32 {
     };
     let tag = tag != 0;
     let flag = if write == 0 { Flag::Read } else { Flag::Write };
-    match check_reference(&machine, Pointer { tag, segment, word }, flag) {
+    let pointer = Pointer { tag, segment, word };
+    let checked = match tag {
+        true => recent::live_check(&machine, Reference::new(pointer, flag)),
+        false => check_reference(&machine, pointer, flag),
+    };
+    match checked {
         Err(fault) => REFUSED + u32::from(fault.number()),
         Ok(()) => first_word(&machine, segment) + u32::from(word),
     }

@@ -30,6 +30,16 @@ impl Processor<'_> {
     /// One instruction. At a fault record and memory are as before it.
     #[inline(always)]
     pub fn step(&mut self) -> Result<Completed, Fault> {
+        self.made.clear();
+        let completed = self.instruction()?;
+        self.renew();
+        Ok(completed)
+    }
+
+    /// One instruction, after which the references that it made are still to
+    /// renew the registers, unless it crossed.
+    #[inline(always)]
+    fn instruction(&mut self) -> Result<Completed, Fault> {
         let instruction = self.fetch()?;
         match instruction.opcode {
             Opcode::Halt => Ok(Completed::Halted),

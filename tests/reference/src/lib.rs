@@ -14,6 +14,7 @@ pub mod image;
 pub mod instructions;
 pub mod numbers;
 pub mod pointers;
+pub mod recent;
 pub mod record;
 pub mod report;
 pub mod run;
@@ -27,7 +28,8 @@ pub use image::{read_image, segment, segment_number, write_image};
 pub use instructions::Completed;
 pub use numbers::{Fault, Refusal};
 pub use record::Machine;
-pub use run::{run, step, stretch, Ending, Processor, Run, Step};
+pub use run::{run, run_without_registers, step, stretch, stretch_without_registers};
+pub use run::{Ending, Processor, Run, Step};
 pub use soundness::is_sound;
 
 /// Fewest words that a memory may have.

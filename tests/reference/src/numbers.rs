@@ -18,7 +18,7 @@ pub enum Refusal {
     BytesAfterEnd = 6,
     /// The memory has fewer than 8,192 words.
     ShortMemory = 7,
-    /// The output is too short, or the record has fewer than 919 bytes.
+    /// The output is too short, or the record has fewer than 1,079 bytes.
     ShortOutput = 8,
     /// The machine record is not sound.
     NotSound = 9,

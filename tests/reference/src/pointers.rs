@@ -2,6 +2,7 @@
 
 use crate::checks::{check_reference, Flag};
 use crate::numbers::Fault;
+use crate::recent::{self, Reference};
 use crate::run::Processor;
 use crate::words::{Instruction, Pointer};
 
@@ -9,7 +10,7 @@ impl Processor<'_> {
     /// The effective pointer: base register plus offset, then at most one
     /// indirect read, which keeps a tag that is on.
     #[inline(always)]
-    pub(crate) fn effective_pointer(&self, instruction: Instruction) -> Result<Pointer, Fault> {
+    pub(crate) fn effective_pointer(&mut self, instruction: Instruction) -> Result<Pointer, Fault> {
         let base = self.machine.pointers[usize::from(instruction.base & 7)];
         let first = base.plus(instruction.offset)?;
         if !instruction.indirect {
@@ -22,17 +23,39 @@ impl Processor<'_> {
 
     /// The word at a pointer, checked for R under the pointer's tag.
     #[inline(always)]
-    pub(crate) fn load(&self, pointer: Pointer) -> Result<u32, Fault> {
-        check_reference(self.machine, pointer, Flag::Read)?;
+    pub(crate) fn load(&mut self, pointer: Pointer) -> Result<u32, Fault> {
+        self.refer(pointer, Flag::Read)?;
         Ok(self.memory[self.address(pointer.segment, pointer.word)])
     }
 
     /// Stores a word at a pointer, checked for W under the pointer's tag.
     #[inline(always)]
     pub(crate) fn store(&mut self, pointer: Pointer, value: u32) -> Result<(), Fault> {
-        check_reference(self.machine, pointer, Flag::Write)?;
+        self.refer(pointer, Flag::Write)?;
         let address = self.address(pointer.segment, pointer.word);
         self.memory[address] = value;
         Ok(())
+    }
+
+    /// Checks a reference as its tag says. One through a tagged pointer is kept
+    /// until the instruction is completed.
+    #[inline(always)]
+    fn refer(&mut self, pointer: Pointer, flag: Flag) -> Result<(), Fault> {
+        if !pointer.tag || !self.uses_registers {
+            return check_reference(self.machine, pointer, flag);
+        }
+        let made = Reference::new(pointer, flag);
+        recent::live_check(self.machine, made)?;
+        self.made.push(made);
+        Ok(())
+    }
+
+    /// Renews the registers by each reference that the instruction made, in
+    /// order, with the live frame as it is now.
+    #[inline(always)]
+    pub(crate) fn renew(&mut self) {
+        for made in self.made.drain(..) {
+            recent::renew(self.machine, made);
+        }
     }
 }

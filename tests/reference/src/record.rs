@@ -1,6 +1,7 @@
 //! The machine record. Its fields can hold any value of their types, so a
 //! record need not be sound.
 
+use crate::recent::{self, Registers};
 use crate::words::Pointer;
 
 /// Most segments of a machine.
@@ -83,6 +84,7 @@ pub struct Machine {
     pub domain: u8,
     pub frame_count: u8,
     pub frames: [Frame; FRAMES],
+    pub recent: Registers,
     pub start_domain: u8,
     pub start: Location,
 }
@@ -96,7 +98,7 @@ impl Machine {
     }
 
     /// Puts the registers into their fresh state: the start domain at the
-    /// start location, no frames.
+    /// start location, no frames, no recent capabilities.
     pub fn restart(&mut self) {
         let stack_segment = self
             .domains
@@ -109,5 +111,6 @@ impl Machine {
         self.domain = self.start_domain;
         self.frame_count = 0;
         self.frames = [Frame::default(); FRAMES];
+        self.recent = recent::fresh();
     }
 }

@@ -2,6 +2,7 @@
 
 use crate::instructions::Completed;
 use crate::numbers::{Fault, Refusal};
+use crate::recent::Reference;
 use crate::record::{Machine, SEGMENTS};
 use crate::soundness::is_sound;
 use crate::MEMORY_WORDS;
@@ -12,6 +13,10 @@ pub struct Processor<'a> {
     pub(crate) machine: &'a mut Machine,
     pub(crate) memory: &'a mut [u32],
     first_words: [usize; SEGMENTS],
+    /// Whether live checks use and renew the registers.
+    pub(crate) uses_registers: bool,
+    /// The references through tagged pointers that an instruction made so far.
+    pub(crate) made: Vec<Reference>,
 }
 
 impl<'a> Processor<'a> {
@@ -24,7 +29,18 @@ impl<'a> Processor<'a> {
             machine,
             memory,
             first_words,
+            uses_registers: true,
+            made: Vec::new(),
         })
+    }
+
+    /// The same processor without registers: each live check is the full
+    /// search, and what the record has in its registers stays.
+    pub fn without_registers(self) -> Processor<'a> {
+        Processor {
+            uses_registers: false,
+            ..self
+        }
     }
 
     /// The record as the last instruction left it.
@@ -159,4 +175,24 @@ pub fn run(machine: &mut Machine, memory: &mut [u32], limit: u16) -> Result<Run,
 /// A run that also stops right after its first completed crossing.
 pub fn stretch(machine: &mut Machine, memory: &mut [u32], limit: u16) -> Result<Run, Refusal> {
     Ok(Processor::new(machine, memory)?.execute_up_to(limit, true))
+}
+
+/// A run by full searches alone, without registers.
+pub fn run_without_registers(
+    machine: &mut Machine,
+    memory: &mut [u32],
+    limit: u16,
+) -> Result<Run, Refusal> {
+    let processor = Processor::new(machine, memory)?;
+    Ok(processor.without_registers().execute_up_to(limit, false))
+}
+
+/// A stretch by full searches alone, without registers.
+pub fn stretch_without_registers(
+    machine: &mut Machine,
+    memory: &mut [u32],
+    limit: u16,
+) -> Result<Run, Refusal> {
+    let processor = Processor::new(machine, memory)?;
+    Ok(processor.without_registers().execute_up_to(limit, true))
 }

@@ -1,6 +1,7 @@
 //! Soundness of a machine record, whatever it holds.
 
 use crate::checks::{has_flag, Flag};
+use crate::recent::{may_hold, Recent};
 use crate::record::{
     Capability, Domain, Frame, Location, Machine, Segment, CAPABILITIES, DOMAINS, FRAMES, SEGMENTS,
 };
@@ -21,6 +22,7 @@ pub fn is_sound(machine: &Machine) -> bool {
         && gates_sound(machine)
         && registers_sound(machine)
         && frames_sound(machine)
+        && recent_sound(machine)
 }
 
 /// Whether the segments' rows are good and together have at most 8,192 words.
@@ -111,4 +113,28 @@ fn capability_sound(machine: &Machine, row: &Capability) -> bool {
         && end <= u32::from(SEGMENT_WORDS)
         && (row.read || row.write)
         && row.source < machine.domain_count
+}
+
+/// Whether the registers' recency numbers are 0 to 15, each once, and what they
+/// hold is good.
+fn recent_sound(machine: &Machine) -> bool {
+    let mut numbers = machine.recent.map(|row| row.recency);
+    numbers.sort_unstable();
+    (0..).zip(numbers).all(|(due, number)| number == due)
+        && machine
+            .recent
+            .iter()
+            .all(|row| register_sound(machine, row))
+}
+
+/// Whether a register is empty and zero, or holds a capability that its frame
+/// in use has and that may be entered.
+pub fn register_sound(machine: &Machine, row: &Recent) -> bool {
+    let Some(index) = usize::from(row.frame).checked_sub(1) else {
+        return row.capability == Capability::default();
+    };
+    let count = usize::from(machine.frame_count).min(FRAMES);
+    let used = &machine.frames[..count];
+    used.get(index)
+        .is_some_and(|frame| may_hold(frame, &row.capability))
 }

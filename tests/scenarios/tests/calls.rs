@@ -78,6 +78,11 @@ fn the_whole_effect_of_a_crossing_call() {
     expected.domain = 1;
     expected.location.segment = 2;
     expected.location.word = 1;
+    let list = expected.frames[0].capabilities[2];
+    (expected.recent[0].capability, expected.recent[0].frame) = (list, 1);
+    for (row, recency) in expected.recent.iter_mut().zip([15].into_iter().chain(0..)) {
+        row.recency = recency;
+    }
     bench.steps(1);
     assert_eq!(bench.machine, expected);
     assert_eq!(bench.changed(), []);

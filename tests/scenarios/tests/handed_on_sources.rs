@@ -212,6 +212,14 @@ fn the_whole_effect_with_one_to_seven_frames_in_use() {
         expected.domain = CALLED;
         expected.location.segment = 2;
         expected.location.word = 0;
+        for (k, number) in (0..2).zip([frames, frames + 1]) {
+            let row = &mut expected.recent[k];
+            (row.capability, row.frame) = (list_there, number);
+        }
+        let numbers = [14, 15].into_iter().chain(0..);
+        for (row, recency) in expected.recent.iter_mut().zip(numbers) {
+            row.recency = recency;
+        }
         bench.steps(1);
         assert_eq!(bench.machine, expected);
         assert_eq!(bench.changed(), []);

@@ -393,11 +393,11 @@ fn an_image_is_read_over_a_record_with_a_dead_gate() {
 #[test]
 fn short_records_and_memories_come_before_a_dead_gate() {
     let image = dead().concat();
-    let (mut record, mut words) = (vec![3; 919], vec![5; 8192]);
-    assert_eq!(read_over(&image, &mut record[..918], &mut words), 8);
+    let (mut record, mut words) = (vec![3; 1079], vec![5; 8192]);
+    assert_eq!(read_over(&image, &mut record[..1078], &mut words), 8);
     assert_eq!(read_over(&image, &mut record, &mut words[..8191]), 7);
     assert_eq!(read_over(&image, &mut record, &mut words), 10);
-    assert_eq!((record, words), (vec![3; 919], vec![5; 8192]));
+    assert_eq!((record, words), (vec![3; 1079], vec![5; 8192]));
 }
 
 #[test]
@@ -445,6 +445,9 @@ fn reading_makes_a_fresh_machine_and_leaves_other_words() {
     expected.start.segment = 1;
     expected.start.word = 4095;
     expected.location = expected.start;
+    for (row, recency) in expected.recent.iter_mut().zip(0..) {
+        row.recency = recency;
+    }
     assert_eq!(machine, expected);
 }
 

@@ -146,7 +146,11 @@ fn crossings_before_a_fault_are_logged_and_the_ending_is_not() {
     let logged = Logged::of(&Bench::new(&image));
     assert_eq!(logged.code >> 24, 1, "faulted");
     assert_eq!(logged.totals, (2, 0));
-    assert_eq!(logged.record[262], 2, "calls less returns");
+    assert_eq!(
+        logged.record[reference::bytes::DEPTH],
+        2,
+        "calls less returns"
+    );
 }
 
 #[test]

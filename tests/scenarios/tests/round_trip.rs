@@ -43,6 +43,7 @@ fn fresh(machine: &Machine) -> Machine {
         domain: machine.start_domain,
         start_domain: machine.start_domain,
         start: machine.start,
+        recent: reference::recent::fresh(),
         ..Machine::default()
     };
     let start = usize::from(machine.start_domain);

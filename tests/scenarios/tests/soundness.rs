@@ -6,6 +6,12 @@ use compare::library;
 use reference::{host, is_sound, Machine, Refusal};
 use scenarios::*;
 
+/// Where a record has the number of frames in use, its frames and its
+/// registers.
+const DEPTH_AT: usize = 262;
+const FRAMES_AT: usize = 263;
+const REGISTERS_AT: usize = 919;
+
 /// A sound record with two frames in use.
 fn sound() -> Machine {
     let mut bench = world(&[]);
@@ -175,6 +181,132 @@ fn capabilities() {
     assert!(with(3, 4, 4, W, 1), "the last need not be the list");
 }
 
+/// Makes one change to a sound record of which registers 3 and 7 hold the first
+/// frame's capability and the second one's last, and says whether it is sound.
+fn after_filled(change: impl FnOnce(&mut Machine)) -> bool {
+    after(|m| {
+        fill(m);
+        assert!(is_sound(m));
+        change(m);
+    })
+}
+
+fn fill(m: &mut Machine) {
+    hold(m, 3, capability(3, 4, 4, R, 1), 1);
+    hold(m, 7, capability(4, 0, 3, R, 0), 2);
+}
+
+/// Lets a register hold a capability of a frame.
+fn hold(m: &mut Machine, k: usize, row: reference::record::Capability, frame: u8) {
+    (m.recent[k].capability, m.recent[k].frame) = (row, frame);
+}
+
+#[test]
+fn recency_numbers() {
+    assert!(!after_filled(|m| m.recent[3].recency = 4), "one twice");
+    assert!(!after_filled(|m| m.recent[15].recency = 0), "one twice");
+    assert!(!after_filled(|m| m.recent[15].recency = 16));
+    assert!(!after_filled(|m| m.recent[0].recency = 16));
+    assert!(!after_filled(|m| m.recent[7].recency = 255));
+    let swapped = |m: &mut Machine| (m.recent[3].recency, m.recent[9].recency) = (9, 3);
+    assert!(after_filled(swapped));
+    let turned = |m: &mut Machine| m.recent.iter_mut().for_each(|row| row.recency ^= 15);
+    assert!(after_filled(turned), "any order");
+    assert!(!after(|m| m.recent = Default::default()), "all are 0");
+}
+
+#[test]
+fn filled_registers() {
+    let (first, last) = (capability(3, 4, 4, R, 1), capability(4, 0, 3, R, 0));
+    for (row, frame, sound) in [
+        (first, 1, true),
+        (first, 2, false),
+        (last, 2, true),
+        (last, 1, false),
+        (first, 3, false),
+        (last, 3, false),
+        (first, 8, false),
+        (first, 9, false),
+        (first, 255, false),
+        (capability(3, 4, 4, W, 1), 2, true),
+        (capability(3, 4, 4, W, 1), 1, false),
+        (capability(3, 4, 3, R, 1), 1, false),
+        (capability(3, 5, 4, R, 1), 1, false),
+        (capability(2, 4, 4, R, 1), 1, false),
+        (capability(3, 4, 4, R, 0), 1, false),
+        (capability(3, 4, 4, R | W, 1), 1, false),
+        (Default::default(), 1, false),
+        (first, 0, false),
+    ] {
+        let sound_then = after_filled(|m| hold(m, 5, row, frame));
+        assert_eq!(sound_then, sound, "{row:?} of frame {frame}");
+    }
+    assert!(after_filled(|m| hold(m, 0, first, 1)), "the same twice");
+}
+
+#[test]
+fn a_filled_register_of_a_frame_given_up() {
+    let give_up = |m: &mut Machine| {
+        m.frames[1] = Default::default();
+        m.frame_count = 1;
+    };
+    assert!(!after_filled(give_up));
+    assert!(after_filled(|m| {
+        give_up(m);
+        hold(m, 7, Default::default(), 0);
+    }));
+}
+
+#[test]
+fn registers_hold_what_may_be_entered() {
+    let held = |rows: &[reference::record::Capability], k: usize| {
+        after(|m| {
+            m.frames[1] = frame(1, rows);
+            hold(m, 5, rows[k], 2);
+        })
+    };
+    let [own, other] = [0, 1].map(|source| capability(4, 2, 4, R, source));
+    assert!(held(&[own, other], 0));
+    assert!(!held(&[own, other], 1));
+    assert!(
+        !held(&[capability(4, 5, 1, W, 0), other], 1),
+        "flags don't count"
+    );
+    assert!(
+        held(&[capability(4, 6, 1, R, 0), other], 1),
+        "no word shared"
+    );
+    assert!(
+        held(&[capability(4, 0, 2, R, 0), other], 1),
+        "no word shared"
+    );
+    assert!(
+        held(&[capability(3, 2, 4, R, 0), other], 1),
+        "no word shared"
+    );
+    assert!(
+        held(&[capability(4, 5, 1, R, 1), other], 1),
+        "of one source"
+    );
+    assert!(held(&[own, other, own], 2), "by its first place");
+    assert!(!held(&[own, other, other], 2));
+    let eight = [capability(3, 0, 1, R, 0); 8];
+    let rows: Vec<_> = eight.into_iter().chain([other]).collect();
+    assert!(held(&rows, 8));
+}
+
+#[test]
+fn empty_registers() {
+    assert!(!after_filled(|m| m.recent[0].capability.word = 1));
+    assert!(!after_filled(|m| m.recent[15].capability.length = 1));
+    assert!(!after_filled(|m| m.recent[1].capability.segment = 1));
+    assert!(!after_filled(|m| m.recent[2].capability.source = 1));
+    assert!(!after_filled(|m| m.recent[4].capability.read = true));
+    assert!(!after_filled(|m| m.recent[4].capability.write = true));
+    assert!(!after_filled(|m| m.recent[3].frame = 0), "not zero");
+    assert!(!after_filled(|m| m.recent[4].frame = 1), "zero");
+}
+
 #[test]
 fn every_call_refuses_an_unsound_record() {
     let mut machine = sound();
@@ -288,6 +420,34 @@ fn every_call_refuses_a_dead_gate() {
 }
 
 #[test]
+fn every_call_refuses_registers_that_are_not_sound() {
+    let changes: [fn(&mut Machine); 6] = [
+        |m| m.recent[3].recency = 4,
+        |m| m.recent[15].recency = 16,
+        |m| hold(m, 0, capability(3, 4, 4, R, 1), 3),
+        |m| hold(m, 0, capability(3, 4, 4, R, 1), 2),
+        |m| {
+            m.frames[1].capabilities[0] = capability(4, 2, 1, W, 1);
+            hold(m, 0, capability(4, 0, 3, R, 0), 2);
+        },
+        |m| m.recent[0].capability.source = 1,
+    ];
+    for change in changes {
+        let mut machine = sound();
+        fill(&mut machine);
+        change(&mut machine);
+        let record = reference::record_bytes(&machine);
+        for count in [8192, 0] {
+            let words = vec![7; count];
+            all_give_nine(&BY_REFERENCE, &record, &words);
+            if library::linked().is_ok() {
+                all_give_nine(&BY_LIBRARY, &record, &words);
+            }
+        }
+    }
+}
+
+#[test]
 fn the_checks_answer_for_any_record() {
     let mut machine = sound();
     machine.segment_count = 255;
@@ -325,11 +485,12 @@ fn the_parts_of_a_record_as_bytes() {
     machine.pointers[7] = tagged_at(9, 0x0ABC);
     machine.frames[1].s = tagged_at(2, 3);
     machine.frames[1].return_location = untagged_at(4, 0x0567);
+    fill(&mut machine);
     let bytes = reference::record_bytes(&machine);
     let part = |from: usize, expected: &[u8]| {
         assert_eq!(&bytes[from..from + expected.len()], expected, "from {from}");
     };
-    assert_eq!(bytes.len(), 919);
+    assert_eq!(bytes.len(), 1079);
     part(0, &[10, 0, 10, 0, 10, 0, 10, 0, 0, 16, 0, 0]);
     part(32, &[0, 0, 0, 0, 2, 0, 0, 0]);
     part(64, &[0x23, 0x01, 4, 1]);
@@ -342,33 +503,56 @@ fn the_parts_of_a_record_as_bytes() {
     part(230, &[0; 8]);
     part(238, &[0, 0, 1, 0]);
     part(258, &[0xBC, 0x0A, 9, 1]);
-    part(262, &[2, 1, 4, 0, 4, 0, 3, 1, 1, 0, 0, 0]);
-    part(345, &[2, 4, 0, 4, 0, 3, 1, 0, 1, 0, 0, 3, 0, 4, 0, 1, 0, 0]);
-    part(345 + 73, &[3, 0, 2, 1, 0x67, 0x05, 4, 0, 1]);
-    part(345 + 82, &[0; 919 - 345 - 82]);
+    let second = FRAMES_AT + 82;
+    part(FRAMES_AT, &[1, 4, 0, 4, 0, 3, 1, 1, 0, 0, 0]);
+    part(
+        second,
+        &[2, 4, 0, 4, 0, 3, 1, 0, 1, 0, 0, 3, 0, 4, 0, 1, 0, 0],
+    );
+    part(second + 73, &[3, 0, 2, 1, 0x67, 0x05, 4, 0, 1]);
+    part(second + 82, &[0; 6 * 82]);
+    for k in [0, 1, 2, 4, 5, 6, 8, 9, 10, 11, 12, 13, 14, 15] {
+        let row = REGISTERS_AT + 10 * k;
+        part(row, &[0, 0, 0, 0, 0, 0, 0, 0, 0, k as u8]);
+    }
+    part(REGISTERS_AT + 30, &[4, 0, 4, 0, 3, 1, 1, 0, 1, 3]);
+    part(REGISTERS_AT + 70, &[0, 0, 3, 0, 4, 0, 1, 0, 2, 7]);
+    part(DEPTH_AT, &[2]);
     assert_eq!(reference::machine_from_bytes(&bytes), Ok(machine));
 }
 
 #[test]
 fn bytes_are_a_record_or_refused() {
-    let machine = sound();
+    let mut machine = sound();
+    fill(&mut machine);
     let bytes = reference::record_bytes(&machine);
     let read = |bytes: &[u8]| reference::machine_from_bytes(bytes);
-    assert_eq!(read(&bytes[..918]), Err(Refusal::ShortOutput));
+    assert_eq!(read(&bytes[..919]), Err(Refusal::ShortOutput));
+    assert_eq!(read(&bytes[..1078]), Err(Refusal::ShortOutput));
     assert_eq!(read(&[]), Err(Refusal::ShortOutput));
     let longer = [&bytes[..], &[0xEE; 3]].concat();
     assert_eq!(read(&longer), Ok(machine), "bytes after it don't matter");
     for (place, byte) in [
         (233, 2),
         (233, 255),
-        (263 + 7, 2),
-        (263 + 9, 1),
-        (345 + 81, 2),
-        (345 + 82, 1),
-        (918, 1),
-        (262, 9),
-        (263, 0),
-        (263, 10),
+        (FRAMES_AT + 7, 2),
+        (FRAMES_AT + 9, 1),
+        (FRAMES_AT + 82 + 81, 2),
+        (FRAMES_AT + 2 * 82, 1),
+        (FRAMES_AT + 8 * 82 - 1, 1),
+        (DEPTH_AT, 9),
+        (DEPTH_AT, 1),
+        (FRAMES_AT, 0),
+        (FRAMES_AT, 10),
+        (REGISTERS_AT, 1),
+        (REGISTERS_AT + 9, 1),
+        (REGISTERS_AT + 9, 16),
+        (REGISTERS_AT + 36, 2),
+        (REGISTERS_AT + 37, 2),
+        (REGISTERS_AT + 38, 2),
+        (REGISTERS_AT + 38, 0),
+        (REGISTERS_AT + 158, 1),
+        (REGISTERS_AT + 159, 14),
         (31, 1),
         (219, 1),
         (220, 17),

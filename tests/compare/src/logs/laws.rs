@@ -6,7 +6,7 @@ use crate::state::State;
 use reference::crossings::CROSSING_BYTES;
 
 /// Where a record has the number of frames in use.
-pub const FRAMES_IN_USE: usize = 262;
+pub const FRAMES_IN_USE: usize = reference::bytes::DEPTH;
 
 /// A state and an output, before a logged run or after it.
 #[derive(Clone, Copy)]

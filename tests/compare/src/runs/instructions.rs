@@ -2,16 +2,19 @@
 //! opcode, with registers that point anywhere.
 
 use generator::handed_on::about_to_hand_on;
+use generator::recent::about_to_refer;
 use generator::records::{self, executable_place, Snapshot};
 use generator::Rng;
 use reference::record::{Machine, ACTIVATION_POINTER};
 use reference::words::{Opcode, Pointer, OPCODES};
 
-/// A sound machine whose next instruction is a random one, or a call that hands
-/// a list on.
+/// A sound machine whose next instruction is a random one, a call that hands a
+/// list on, or one that refers to words through tagged pointers.
 pub fn about_to_execute(rng: &mut Rng) -> Snapshot {
-    if rng.chance(20) {
-        return about_to_hand_on(rng);
+    match rng.below(10) {
+        0 | 1 => return about_to_hand_on(rng),
+        2 | 3 => return about_to_refer(rng),
+        _ => {}
     }
     let mut snapshot = records::sound(rng);
     let machine = &mut snapshot.machine;

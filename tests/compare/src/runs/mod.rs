@@ -7,6 +7,7 @@ mod states;
 mod tally;
 
 pub use call::{code, kind, number, Call, Kind};
+pub(crate) use instructions::about_to_execute;
 pub use pair::{both_call, both_run_image};
 pub use tally::Tally;
 
@@ -248,12 +249,12 @@ pub(crate) fn no_record(rng: &mut Rng) -> Vec<u8> {
 
 /// Whether the next call does more than this one: it wasn't refused, and the
 /// machine neither halted nor faulted.
-fn goes_on(code: u32) -> bool {
+pub(crate) fn goes_on(code: u32) -> bool {
     matches!(kind(code), Some(Kind::Spent | Kind::Crossed))
 }
 
 /// The limit of an image's first run.
-fn first_limit(rng: &mut Rng, index: u64) -> u16 {
+pub(crate) fn first_limit(rng: &mut Rng, index: u64) -> u16 {
     match index % 64 {
         0 => 65_535,
         1..=3 => 0,
@@ -264,7 +265,7 @@ fn first_limit(rng: &mut Rng, index: u64) -> u16 {
 }
 
 /// A call on a machine that has run before: a third are stretches.
-fn further_call(rng: &mut Rng) -> Call {
+pub(crate) fn further_call(rng: &mut Rng) -> Call {
     let limit = match rng.below(12) {
         0 => 0,
         1 | 2 => 1,

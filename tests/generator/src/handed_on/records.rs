@@ -1,6 +1,7 @@
 //! Sound records about to hand on a list that no program had there.
 
 use crate::random::Rng;
+use crate::recent::{fill, mend};
 use crate::records::{self, executable_place, Snapshot};
 use assembler::{call, mode, E, G, R, W};
 use reference::checks::word_exists;
@@ -10,13 +11,14 @@ use reference::SEGMENT_WORDS;
 
 /// A sound record whose next instruction is mostly a call through a gate with a
 /// tagged a. The capabilities of the live frame lie on the list in any way. Two
-/// in five have six or seven frames in use.
+/// in five have six or seven frames in use; three in five have registers filled
+/// at random.
 pub fn about_to_hand_on(rng: &mut Rng) -> Snapshot {
     loop {
         let mut snapshot = records::sound(rng);
         let machine = &mut snapshot.machine;
         if rng.chance(40) {
-            let frames = rng.between(6, 7) as u8;
+            let frames = rng.pick(&[6, 7, 7]);
             records::add_frames(rng, machine, frames);
         }
         if !(1..FRAMES).contains(&usize::from(machine.frame_count)) {
@@ -29,6 +31,10 @@ pub fn about_to_hand_on(rng: &mut Rng) -> Snapshot {
         machine.pointers[base as usize] = gate;
         let address = executable_place(rng, machine);
         put_list(rng, &mut snapshot);
+        if rng.chance(60) {
+            fill(rng, &mut snapshot.machine);
+        }
+        mend(&mut snapshot.machine);
         snapshot.memory[address] = call(base, 0).word();
         return snapshot;
     }

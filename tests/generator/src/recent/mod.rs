@@ -1,0 +1,13 @@
+//! The registers of recent capabilities: images that use them in each way,
+//! records with registers of all kinds, and what runs did with them.
+
+mod counts;
+mod damage;
+mod image;
+mod records;
+
+pub(crate) use counts::Before;
+pub use counts::Recents;
+pub use damage::spoil_a_register;
+pub use image::build;
+pub use records::{about_to_refer, fill, mend};
