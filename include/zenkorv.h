@@ -10,12 +10,12 @@ extern "C" {
 #endif
 
 #define ZENKORV_VERSION_MAJOR 1
-#define ZENKORV_VERSION_MINOR 3
+#define ZENKORV_VERSION_MINOR 4
 #define ZENKORV_VERSION_PATCH 0
-#define ZENKORV_VERSION "1.3.0"
+#define ZENKORV_VERSION "1.4.0"
 
 /* A machine is a record of so many bytes and a memory of so many words. The firmware keeps them and lends them to calls. */
-#define ZENKORV_RECORD_BYTES 919
+#define ZENKORV_RECORD_BYTES 1079
 #define ZENKORV_MEMORY_WORDS 8192
 
 /* The longest image that can be accepted, and the longest that is written, in bytes. */
@@ -67,7 +67,7 @@ enum zenkorv_ending {
  * - Nobody else writes what is lent while a call lasts, nor reads what the call may write.
  *
  * Any bytes may be lent as a record, and any words as a memory: each call judges them. Slices may be longer than asked
- * for; bytes past the 919th and words past the last segment stay. A refused call leaves every byte and word as it was.
+ * for; bytes past the 1,079th and words past the last segment stay. A refused call leaves every byte and word as it was.
  *
  * Threads and interrupts: no call keeps a pointer, uses a static or the heap. Calls on different machines may run at the
  * same time; a machine is in one call at a time. An interrupt may come during a call if its handler leaves the slices of
@@ -92,7 +92,12 @@ enum zenkorv_ending {
 /*
  * The record's bytes. Numbers are little-endian, flags are 0 or 1, rows that are not in use are zeros. The firmware may
  * keep and copy the bytes, and read them; a record that was changed is refused with 9 unless it is sound. A record with a
- * dead gate (see 10) is not sound, even if a version before 1.2 accepted it.
+ * dead gate (see 10) is not sound, even if a version before 1.2 accepted it. A record of a version before 1.4 is the first
+ * 919 bytes of one; put after it, for k from 0 to 15, nine zeros and k: registers that are empty.
+ *
+ * The sixteen registers keep recent capabilities of the frames in use. In a sound record they change no answer: their
+ * recency numbers are 0 to 15, each once, and a filled one holds a capability that its frame has, and that shares no word
+ * with an earlier one of another source in that frame.
  *
  *     at  bytes  what
  *      0  16 x 2  length of each segment, in words
@@ -111,6 +116,8 @@ enum zenkorv_ending {
  *    262  1       number of frames in use
  *    263  8 x 82  frames, the oldest first: number of capabilities; nine of 8 bytes: word (2), length (2), segment, source,
  *                 read, write; s (4) and return location (4) as pointers; calling domain
+ *    919  16 x 10 registers: a capability, as in a frame (8); its frame, 1 for the oldest; recency number. One that is
+ *                 empty is 0 but for its recency number
  */
 #define ZENKORV_AT_LENGTHS 0
 #define ZENKORV_AT_SEGMENTS 220
@@ -124,12 +131,18 @@ enum zenkorv_ending {
 #define ZENKORV_AT_FRAMES 263
 #define ZENKORV_POINTER_BYTES 4
 #define ZENKORV_FRAME_BYTES 82
+#define ZENKORV_AT_RECENT 919
+#define ZENKORV_RECENT_REGISTERS 16
+#define ZENKORV_RECENT_BYTES 10
+#define ZENKORV_RECENT_AT_CAPABILITY 0
+#define ZENKORV_RECENT_AT_FRAME 8
+#define ZENKORV_RECENT_AT_RECENCY 9
 
 /*
  * Reads an image into a record and a memory. What they held before does not matter.
  *
  * Returns 0: the record is the fresh machine of the image, the image's words stand from word 0 on. Or a refusal: 8 where
- * the record has fewer than 919 bytes, then 7, then 1 to 5, 10 and last 6 for the image, which ends where its slice ends.
+ * the record has fewer than 1,079 bytes, then 7, then 1 to 5, 10 and last 6 for the image, which ends where its slice ends.
  */
 uint8_t zenkorv_read(const uint8_t *image, size_t image_length, uint8_t *record, size_t record_length, uint32_t *words,
                      size_t word_count);
@@ -229,7 +242,8 @@ uint32_t zenkorv_check(const uint8_t *record, size_t record_length, uint8_t writ
 #define ZENKORV_REFUSAL(r) ((r) & 0xFF)
 
 /*
- * Makes the record the fresh machine of its layout: start, registers, no frames. Words are no part of it, and stay.
+ * Makes the record the fresh machine of its layout: start, registers, no frames, no recent capabilities. Words are no
+ * part of it, and stay.
  *
  * Returns 0, or 8, then 9.
  */

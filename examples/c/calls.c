@@ -65,7 +65,77 @@ static void check_places(struct machine m)
     const uint8_t *b = m.record + ZENKORV_AT_POINTERS + 2 * ZENKORV_POINTER_BYTES;
     expect(b[0] == 0 && b[1] == 0 && b[2] == 1 && b[3] == 0, "places", "b is not at word 0 of segment 1");
     expect(m.record[ZENKORV_AT_POINTERS + 3] == 1, "places", "a is not tagged");
-    expect(ZENKORV_AT_FRAMES + 8 * ZENKORV_FRAME_BYTES == RECORD, "places", "frames");
+    expect(ZENKORV_AT_FRAMES + 8 * ZENKORV_FRAME_BYTES == ZENKORV_AT_RECENT, "places", "frames");
+    expect(ZENKORV_AT_RECENT + ZENKORV_RECENT_REGISTERS * ZENKORV_RECENT_BYTES == RECORD, "places", "recent capabilities");
+}
+
+static uint8_t *recent(struct machine m, unsigned number)
+{
+    return m.record + ZENKORV_AT_RECENT + number * ZENKORV_RECENT_BYTES;
+}
+
+/* Empties the registers of recent capabilities, as they are in a fresh machine. */
+static void forget(struct machine m)
+{
+    for (uint8_t k = 0; k < ZENKORV_RECENT_REGISTERS; k++) {
+        memset(recent(m, k), 0, ZENKORV_RECENT_BYTES);
+        recent(m, k)[ZENKORV_RECENT_AT_RECENCY] = k;
+    }
+}
+
+static int same_recent(struct machine m, struct machine n)
+{
+    return memcmp(recent(m, 0), recent(n, 0), RECORD - ZENKORV_AT_RECENT) == 0;
+}
+
+static int holds(struct machine m, unsigned number, const uint8_t *wanted)
+{
+    return memcmp(recent(m, number), wanted, ZENKORV_RECENT_BYTES) == 0;
+}
+
+/* In the package of first_package: the call enters the list, words 5 to 11 of segment 1; reading the first argument, words
+   1 to 3, enters it, and reading it again changes no register. */
+static void check_entered(struct machine m)
+{
+    static const uint8_t list[] = {5, 0, 7, 0, 1, 0, 1, 0, 1, 15};
+    static const uint8_t list_before[] = {5, 0, 7, 0, 1, 0, 1, 0, 1, 14};
+    static const uint8_t numbers[] = {1, 0, 3, 0, 1, 0, 1, 0, 1, 15};
+    expect(stretch(m, HIGHEST) == answer(ZENKORV_CROSSED, 0, 2) && holds(m, 0, list), "recent", "the list");
+    expect(run(m, 2) == answer(ZENKORV_SPENT, 0, 2), "recent", "the first argument is not read");
+    expect(holds(m, 1, numbers) && holds(m, 0, list_before), "recent", "the first argument");
+    struct machine before = copy_of(m);
+    expect(run(m, 2) == answer(ZENKORV_SPENT, 0, 2) && same_recent(m, before), "recent", "read again");
+    give_back(before);
+}
+
+/* The return empties the registers of its frame: the first argument's is replaced next, then that of the second, then the
+   list's, for the list was read last. */
+static void check_cleared(struct machine m)
+{
+    static const uint8_t order[] = {2, 0, 1};
+    uint8_t wanted[ZENKORV_RECENT_BYTES] = {0};
+    expect(stretch(m, HIGHEST) == answer(ZENKORV_CROSSED, 0, 5), "recent", "the return");
+    for (uint8_t k = 0; k < ZENKORV_RECENT_REGISTERS; k++) {
+        wanted[ZENKORV_RECENT_AT_RECENCY] = k < sizeof order ? order[k] : k;
+        expect(holds(m, k, wanted), "recent", "after the return");
+    }
+}
+
+/* The registers change no answer: a machine without them ends as one with them. */
+static void check_recent(void)
+{
+    struct machine m = loaded(&package);
+    check_entered(m);
+    struct machine without = copy_of(m);
+    forget(without);
+    check_cleared(m);
+    expect(run(m, HIGHEST) == answer(ZENKORV_HALTED, 0, 2), "recent", "the end");
+    expect(run(without, HIGHEST) == answer(ZENKORV_HALTED, 0, 7), "recent", "the end without registers");
+    forget(m);
+    forget(without);
+    expect(same(m, without), "recent", "another machine without registers");
+    give_back(without);
+    give_back(m);
 }
 
 /* A fault leaves record and words as before the instruction; a step and a run from there give it again. */
@@ -189,7 +259,7 @@ static uint8_t *last_source(struct machine m)
 }
 
 /* In the domain that the relay of handed_on_list calls: the list, words 12 to 18 of segment 1, is domain 0's, which made
-   it. Were it the relay's, each of its words would give 25. */
+   it. Were it the relay's, each of its words would give 25; a register that still has it as domain 0's is not sound. */
 static void check_handed_on(void)
 {
     enum { NOT = 0x10000, BASE_1 = 4 };
@@ -203,6 +273,8 @@ static void check_handed_on(void)
     check_reference(m, 1, 1, 1, 12, NOT + ZENKORV_NO_MATCH);
     struct machine own = copy_of(m);
     *last_source(own) = 1;
+    check_reference(own, 0, 1, 1, 12, NOT + ZENKORV_NOT_SOUND);
+    forget(own);
     check_reference(own, 0, 1, 1, 12, NOT + ZENKORV_SOURCE_FAILS);
     expect(step(own) == ZENKORV_SOURCE_FAILS, "handed on", "a list of the relay's is read");
     expect(run(m, HIGHEST) == answer(ZENKORV_HALTED, 0, 8), "handed on", "the end");
@@ -257,6 +329,7 @@ static void check_all(void)
     check_steps(at_once);
     check_places(at_once);
     give_back(at_once);
+    check_recent();
     check_longer();
     check_faults();
     check_write();

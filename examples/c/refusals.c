@@ -109,11 +109,23 @@ static void check_unsound(struct machine m)
     check_all_refuse("no segments", with_byte(m, ZENKORV_AT_SEGMENTS, 0), ZENKORV_NOT_SOUND, 1);
 }
 
-/* The same where a frame is in use: trick_address is run into the domain that it calls. */
+/* The same in a register of recent capabilities, all of which are empty. */
+static void check_unsound_register(struct machine m)
+{
+    enum { REGISTER_7 = ZENKORV_AT_RECENT + 7 * ZENKORV_RECENT_BYTES };
+    enum { FRAME_7 = REGISTER_7 + ZENKORV_RECENT_AT_FRAME, RECENCY_7 = REGISTER_7 + ZENKORV_RECENT_AT_RECENCY };
+    check_all_refuse("an empty register", with_byte(m, REGISTER_7, 1), ZENKORV_NOT_SOUND, 1);
+    check_all_refuse("a register of no frame", with_byte(m, FRAME_7, 1), ZENKORV_NOT_SOUND, 1);
+    check_all_refuse("a recency number twice", with_byte(m, RECENCY_7, 8), ZENKORV_NOT_SOUND, 1);
+    check_all_refuse("a recency number of 16", with_byte(m, RECENCY_7, 16), ZENKORV_NOT_SOUND, 1);
+}
+
+/* The same where a frame is in use: trick_address is run into the domain that it calls. Register 0 has the list. */
 static void check_unsound_frame(void)
 {
     enum { CAPABILITY_0 = ZENKORV_AT_FRAMES + 1, CAPABILITY_8 = CAPABILITY_0 + 64, S = ZENKORV_AT_FRAMES + 73 };
     enum { READ_0 = CAPABILITY_0 + 6, TAG_OF_S = S + 3, FRAME_1 = ZENKORV_AT_FRAMES + ZENKORV_FRAME_BYTES };
+    enum { FRAME_OF_0 = ZENKORV_AT_RECENT + ZENKORV_RECENT_AT_FRAME };
     struct machine m = loaded(&trick);
     expect(ZENKORV_RUN_ENDING(stretch(m, HIGHEST)) == ZENKORV_CROSSED, "a frame in use", "no crossing");
     expect(m.record[ZENKORV_AT_FRAMES_IN_USE] == 1, "a frame in use", "another number of frames");
@@ -123,6 +135,9 @@ static void check_unsound_frame(void)
     check_all_refuse("a free capability", with_byte(m, CAPABILITY_8, 1), ZENKORV_NOT_SOUND, 1);
     check_all_refuse("ten capabilities", with_byte(m, ZENKORV_AT_FRAMES, 10), ZENKORV_NOT_SOUND, 1);
     check_all_refuse("a free frame after one in use", with_byte(m, FRAME_1, 1), ZENKORV_NOT_SOUND, 1);
+    check_all_refuse("a register with a list a word short", with_byte(m, ZENKORV_AT_RECENT + 2, 6), ZENKORV_NOT_SOUND, 1);
+    check_all_refuse("a register of a free frame", with_byte(m, FRAME_OF_0, 2), ZENKORV_NOT_SOUND, 1);
+    check_all_refuse("a filled register of no frame", with_byte(m, FRAME_OF_0, 0), ZENKORV_NOT_SOUND, 1);
     give_back(m);
 }
 
@@ -165,11 +180,13 @@ static void check_refusals(void)
 {
     struct machine m = loaded(&package);
     check_unsound(m);
+    check_unsound_register(m);
     check_dead_records(m);
     check_no_gates(m);
     check_all_refuse("bytes of no record", lend(RECORD, WORDS), ZENKORV_NOT_SOUND, 1);
     check_all_refuse("bytes of no record, words short", lend(RECORD, WORDS - 1), ZENKORV_NOT_SOUND, 1);
     check_all_refuse("a short record", part_of(m, RECORD - 1, WORDS), ZENKORV_OUTPUT_TOO_SHORT, 1);
+    check_all_refuse("a record without registers", part_of(m, ZENKORV_AT_RECENT, WORDS), ZENKORV_OUTPUT_TOO_SHORT, 1);
     check_all_refuse("no record", part_of(m, 0, 0), ZENKORV_OUTPUT_TOO_SHORT, 1);
     check_all_refuse("short bytes of no record", lend(RECORD - 1, WORDS - 1), ZENKORV_OUTPUT_TOO_SHORT, 1);
     check_all_refuse("a short memory", part_of(m, RECORD, WORDS - 1), ZENKORV_MEMORY_TOO_SHORT, 0);
