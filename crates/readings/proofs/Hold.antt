@@ -1,11 +1,12 @@
 -- Every row of the table holds: one test that is computed over the table, and what it says of each row.
-use Prim.Native.Nat.{ℕ}
+use Prim.Native.Nat.{ℕ, suc, zero}
 use mathlib.Core.Bool.{Bool, true, false}
 use mathlib.Core.List.{List, [], _∷_, List·Memᴰ, List·Memᴰ·cases-cons, List·Memᴰ·not-nil}
 use mathlib.Core.Logic.{⊎-elim}
 use mathlib.Core.Path.{_≡_, refl, ap}
 use native.Mathlib.Omega.{arith}
 use borrow.Author.Tests.{eqb-true}
+use lib.ListN.{take, drop}
 use lib.Dec.{eqb}
 use Rattle.words.specs.Answer.{Answer, refuse, ok, if_then_else_}
 use Rattle.words.specs.Field.{field, common}
@@ -92,7 +93,16 @@ each (q ∷ rs) e r m =
     let t = parts (same (answer (q .asked)) (q .due)) (hold rs) e in
     ⊎-elim (λ (p : r ≡ q). rw p (same-answer _ _ (t .0))) (λ n. each rs (t .1) r n) (List·Memᴰ·cases-cons m)
 
-pub readings : Readings
+-- a table passes where its first n rows and the others do
+split : (n : ℕ) (rs : List Row) → hold (take n rs) ≡ true → hold (drop n rs) ≡ true → hold rs ≡ true
+split zero rs e f = f
+split (suc n) [] e f = refl
+split (suc n) (r ∷ rs) e f =
+    let t = parts (same (answer (r .asked)) (r .due)) (hold (take n rs)) e in
+    rw (t .0) (split n rs (t .1) f)
+
+-- the test, computed a hundred rows at a time: the checker bounds what one computation may take
+first : hold (take 100 table) ≡ true
 unfolding shares yields allYield same-capability mayEnter risen touched filled orderOf before cleared listed heldOf foundOf referredTo absent numbersTest registerTest contentsTest recentTest liveThrough renewed renewedAll
     indirectPlace madeAt madeBy recentAfter calledRecent leftRecent field common pointerWord pointerOf signedOf displacedOf literalOf instructionOf
     baseOf basesOf freshOf allFrom segmentTest stackTest rightsTest startTest gateTest gatesTest rangesTest layoutTest registersTest pointerTest pointersTest
@@ -102,4 +112,82 @@ unfolding shares yields allYield same-capability mayEnter risen touched filled o
     sumOf differenceOf readOf fetchOf readWord fetch displacedBy throughOf effectiveOf
     jumpCheck callWay jumpOf callOf returnOf loadOf branchOf isLoad isStore valueOf takenOf effectOf executeOf planOf modeOf listWord sourceOf capabilityOf listPointer argumentOf argumentsFrom frameAfter frameOf
     entered left enterOf leaveCheck leaveOf decide commit execute runFrom judged calledOf runCall
-readings = each table refl
+first = refl
+
+second : hold (take 100 (drop 100 table)) ≡ true
+unfolding shares yields allYield same-capability mayEnter risen touched filled orderOf before cleared listed heldOf foundOf referredTo absent numbersTest registerTest contentsTest recentTest liveThrough renewed renewedAll
+    indirectPlace madeAt madeBy recentAfter calledRecent leftRecent field common pointerWord pointerOf signedOf displacedOf literalOf instructionOf
+    baseOf basesOf freshOf allFrom segmentTest stackTest rightsTest startTest gateTest gatesTest rangesTest layoutTest registersTest pointerTest pointersTest
+    capabilityTest emptyCapability emptyPointer emptyFrame frameTest framesTest soundTest
+    has exists rightsOf staticOf coversOf firstOf liveMatch liveOf passedOf verdictOf locateOf referenceOf staticCheck check judgedStatic judgedCheck
+    maySee couldWrite segmentCheck
+    sumOf differenceOf readOf fetchOf readWord fetch displacedBy throughOf effectiveOf
+    jumpCheck callWay jumpOf callOf returnOf loadOf branchOf isLoad isStore valueOf takenOf effectOf executeOf planOf modeOf listWord sourceOf capabilityOf listPointer argumentOf argumentsFrom frameAfter frameOf
+    entered left enterOf leaveCheck leaveOf decide commit execute runFrom judged calledOf runCall
+second = refl
+
+third : hold (take 100 (drop 200 table)) ≡ true
+unfolding shares yields allYield same-capability mayEnter risen touched filled orderOf before cleared listed heldOf foundOf referredTo absent numbersTest registerTest contentsTest recentTest liveThrough renewed renewedAll
+    indirectPlace madeAt madeBy recentAfter calledRecent leftRecent field common pointerWord pointerOf signedOf displacedOf literalOf instructionOf
+    baseOf basesOf freshOf allFrom segmentTest stackTest rightsTest startTest gateTest gatesTest rangesTest layoutTest registersTest pointerTest pointersTest
+    capabilityTest emptyCapability emptyPointer emptyFrame frameTest framesTest soundTest
+    has exists rightsOf staticOf coversOf firstOf liveMatch liveOf passedOf verdictOf locateOf referenceOf staticCheck check judgedStatic judgedCheck
+    maySee couldWrite segmentCheck
+    sumOf differenceOf readOf fetchOf readWord fetch displacedBy throughOf effectiveOf
+    jumpCheck callWay jumpOf callOf returnOf loadOf branchOf isLoad isStore valueOf takenOf effectOf executeOf planOf modeOf listWord sourceOf capabilityOf listPointer argumentOf argumentsFrom frameAfter frameOf
+    entered left enterOf leaveCheck leaveOf decide commit execute runFrom judged calledOf runCall
+third = refl
+
+fourth : hold (take 100 (drop 300 table)) ≡ true
+unfolding shares yields allYield same-capability mayEnter risen touched filled orderOf before cleared listed heldOf foundOf referredTo absent numbersTest registerTest contentsTest recentTest liveThrough renewed renewedAll
+    indirectPlace madeAt madeBy recentAfter calledRecent leftRecent field common pointerWord pointerOf signedOf displacedOf literalOf instructionOf
+    baseOf basesOf freshOf allFrom segmentTest stackTest rightsTest startTest gateTest gatesTest rangesTest layoutTest registersTest pointerTest pointersTest
+    capabilityTest emptyCapability emptyPointer emptyFrame frameTest framesTest soundTest
+    has exists rightsOf staticOf coversOf firstOf liveMatch liveOf passedOf verdictOf locateOf referenceOf staticCheck check judgedStatic judgedCheck
+    maySee couldWrite segmentCheck
+    sumOf differenceOf readOf fetchOf readWord fetch displacedBy throughOf effectiveOf
+    jumpCheck callWay jumpOf callOf returnOf loadOf branchOf isLoad isStore valueOf takenOf effectOf executeOf planOf modeOf listWord sourceOf capabilityOf listPointer argumentOf argumentsFrom frameAfter frameOf
+    entered left enterOf leaveCheck leaveOf decide commit execute runFrom judged calledOf runCall
+fourth = refl
+
+fifth : hold (take 100 (drop 400 table)) ≡ true
+unfolding shares yields allYield same-capability mayEnter risen touched filled orderOf before cleared listed heldOf foundOf referredTo absent numbersTest registerTest contentsTest recentTest liveThrough renewed renewedAll
+    indirectPlace madeAt madeBy recentAfter calledRecent leftRecent field common pointerWord pointerOf signedOf displacedOf literalOf instructionOf
+    baseOf basesOf freshOf allFrom segmentTest stackTest rightsTest startTest gateTest gatesTest rangesTest layoutTest registersTest pointerTest pointersTest
+    capabilityTest emptyCapability emptyPointer emptyFrame frameTest framesTest soundTest
+    has exists rightsOf staticOf coversOf firstOf liveMatch liveOf passedOf verdictOf locateOf referenceOf staticCheck check judgedStatic judgedCheck
+    maySee couldWrite segmentCheck
+    sumOf differenceOf readOf fetchOf readWord fetch displacedBy throughOf effectiveOf
+    jumpCheck callWay jumpOf callOf returnOf loadOf branchOf isLoad isStore valueOf takenOf effectOf executeOf planOf modeOf listWord sourceOf capabilityOf listPointer argumentOf argumentsFrom frameAfter frameOf
+    entered left enterOf leaveCheck leaveOf decide commit execute runFrom judged calledOf runCall
+fifth = refl
+
+sixth : hold (take 100 (drop 500 table)) ≡ true
+unfolding shares yields allYield same-capability mayEnter risen touched filled orderOf before cleared listed heldOf foundOf referredTo absent numbersTest registerTest contentsTest recentTest liveThrough renewed renewedAll
+    indirectPlace madeAt madeBy recentAfter calledRecent leftRecent field common pointerWord pointerOf signedOf displacedOf literalOf instructionOf
+    baseOf basesOf freshOf allFrom segmentTest stackTest rightsTest startTest gateTest gatesTest rangesTest layoutTest registersTest pointerTest pointersTest
+    capabilityTest emptyCapability emptyPointer emptyFrame frameTest framesTest soundTest
+    has exists rightsOf staticOf coversOf firstOf liveMatch liveOf passedOf verdictOf locateOf referenceOf staticCheck check judgedStatic judgedCheck
+    maySee couldWrite segmentCheck
+    sumOf differenceOf readOf fetchOf readWord fetch displacedBy throughOf effectiveOf
+    jumpCheck callWay jumpOf callOf returnOf loadOf branchOf isLoad isStore valueOf takenOf effectOf executeOf planOf modeOf listWord sourceOf capabilityOf listPointer argumentOf argumentsFrom frameAfter frameOf
+    entered left enterOf leaveCheck leaveOf decide commit execute runFrom judged calledOf runCall
+sixth = refl
+
+rest : hold (drop 600 table) ≡ true
+unfolding shares yields allYield same-capability mayEnter risen touched filled orderOf before cleared listed heldOf foundOf referredTo absent numbersTest registerTest contentsTest recentTest liveThrough renewed renewedAll
+    indirectPlace madeAt madeBy recentAfter calledRecent leftRecent field common pointerWord pointerOf signedOf displacedOf literalOf instructionOf
+    baseOf basesOf freshOf allFrom segmentTest stackTest rightsTest startTest gateTest gatesTest rangesTest layoutTest registersTest pointerTest pointersTest
+    capabilityTest emptyCapability emptyPointer emptyFrame frameTest framesTest soundTest
+    has exists rightsOf staticOf coversOf firstOf liveMatch liveOf passedOf verdictOf locateOf referenceOf staticCheck check judgedStatic judgedCheck
+    maySee couldWrite segmentCheck
+    sumOf differenceOf readOf fetchOf readWord fetch displacedBy throughOf effectiveOf
+    jumpCheck callWay jumpOf callOf returnOf loadOf branchOf isLoad isStore valueOf takenOf effectOf executeOf planOf modeOf listWord sourceOf capabilityOf listPointer argumentOf argumentsFrom frameAfter frameOf
+    entered left enterOf leaveCheck leaveOf decide commit execute runFrom judged calledOf runCall
+rest = refl
+
+pub readings : Readings
+readings =
+    each table
+    (split 100 table first (split 100 (drop 100 table) second (split 100 (drop 200 table) third (split 100 (drop 300 table) fourth (split 100 (drop 400 table) fifth
+    (split 100 (drop 500 table) sixth rest))))))
