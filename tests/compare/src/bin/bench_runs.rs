@@ -1,14 +1,15 @@
-//! `bench_runs`: runs two loops with the proved library and with the
+//! `bench_runs`: runs loops with the proved library and with the
 //! reference, in turns, and prints the best CPU time of each.
 //!
-//! One loop has twelve plain instructions, among them a reference through the
-//! sixth capability of the live frame; the other has eight, among them a call
-//! through a gate with two arguments and a return across domains. Both keep
-//! the record as bytes. Each loop is timed in long runs, in slices of 100
-//! instructions, in runs of no instruction, which decode and encode the record
-//! alone, and in runs of 1,000 instructions with a log. An argument asks for
-//! the long runs of one loop (plain or calls), or for `slices`, with all tables
-//! of both.
+//! `plain` has twelve instructions, among them a reference through the sixth
+//! capability of the live frame; `calls` has eight, among them a call through a
+//! gate with two arguments and a return across domains. `untagged` is plain
+//! without that reference, and in `reread` four of five instructions have it.
+//! All keep the record as bytes, and are timed in long runs; plain and calls
+//! also in slices of 100 instructions, in runs of no instruction, which decode
+//! and encode the record alone, and in runs of 1,000 instructions with a log.
+//! An argument asks for the long runs of one loop, or for `slices`, with all
+//! tables of plain and calls.
 
 use assembler::*;
 use compare::{cpu_time, library, State};
@@ -53,7 +54,9 @@ fn caller_data(loop_start: u32, list: ArgumentList) -> Program {
     data
 }
 
-fn plain_loop() -> Vec<u8> {
+/// A loop of the called domain, which has a caller's list of six arguments:
+/// pointer register 4 points to the sixth, 5 to the loop itself.
+fn called_loop(codes: &[Code]) -> Vec<u8> {
     let mut caller = Program::new();
     caller.put(epp(A, B, 8));
     caller.put(epp(3, B, 0).indirect());
@@ -64,7 +67,17 @@ fn plain_loop() -> Vec<u8> {
     let mut called = Program::new();
     called.put(epp(4, A, 13).indirect());
     called.put(epp(5, B, 4).indirect());
-    for code in [
+    for &code in codes {
+        called.put(code);
+    }
+    let mut own = Program::new();
+    own.block([1, 2, pointer(3, 8), 0, pointer(2, 2), 0, 0, 0, 9]);
+    two_domains(&caller, &caller_data(0, list), &called, &own)
+}
+
+/// Twelve instructions, with the eleventh as given.
+fn loop_of_twelve(eleventh: Code) -> Vec<u8> {
+    called_loop(&[
         load(B, 0),
         add(B, 1),
         store(B, 0),
@@ -75,14 +88,30 @@ fn plain_loop() -> Vec<u8> {
         lit(5),
         jz(5, 0),
         jm(5, 0),
-        load(4, 0),
+        eleventh,
         jump(5, 0),
-    ] {
-        called.put(code);
-    }
-    let mut own = Program::new();
-    own.block([1, 2, pointer(3, 8), 0, pointer(2, 2), 0, 0, 0, 9]);
-    two_domains(&caller, &caller_data(0, list), &called, &own)
+    ])
+}
+
+/// One instruction in twelve goes through an argument.
+fn plain_loop() -> Vec<u8> {
+    loop_of_twelve(load(4, 0))
+}
+
+/// No instruction does.
+fn untagged_loop() -> Vec<u8> {
+    loop_of_twelve(load(B, 1))
+}
+
+/// Four in five do, one of them also through the list.
+fn reread_loop() -> Vec<u8> {
+    called_loop(&[
+        load(4, 0),
+        add(4, 0),
+        sub(4, 0),
+        load(A, 13).indirect(),
+        jump(5, 0),
+    ])
 }
 
 fn call_loop() -> Vec<u8> {
@@ -157,7 +186,7 @@ fn both(runs: [Runs; 2], image: &[u8], calls: usize, limit: u16) -> [f64; 2] {
 /// A row of a table: both times and the library's over the reference's.
 fn row(name: &str, [library, reference]: [f64; 2]) -> String {
     let ratio = library / reference;
-    format!("{name:6} {library:9.2} {reference:10.2} {ratio:7.2}")
+    format!("{name:8} {library:9.2} {reference:10.2} {ratio:7.2}")
 }
 
 /// Long runs: nanoseconds an instruction.
@@ -203,37 +232,42 @@ fn main() {
         std::process::exit(1);
     }
     let only = std::env::args().nth(1);
-    let loops = [("plain", plain_loop()), ("calls", call_loop())];
+    let loops = [
+        ("plain", plain_loop()),
+        ("calls", call_loop()),
+        ("untagged", untagged_loop()),
+        ("reread", reread_loop()),
+    ];
     let is_asked = |name: &str| only.as_ref().is_none_or(|only| only == name);
     let with_slices = is_asked("slices");
     let mut asked: Vec<_> = loops.iter().collect();
     asked.retain(|(name, _)| with_slices || is_asked(name));
-    assert!(!asked.is_empty(), "plain, calls or slices");
+    assert!(!asked.is_empty(), "untagged, plain, reread, calls or slices");
     println!("ns of CPU time, best of {ROUNDS} rounds");
     println!("an instruction of a long run, {CALLS} runs of {LIMIT} a round");
-    println!("         library  reference   ratio");
+    println!("           library  reference   ratio");
     for (name, image) in &asked {
         long_run(name, image);
     }
     if with_slices {
-        print_slices(&asked);
+        print_slices(&asked[..2]);
     }
 }
 
 /// The tables of slices, of runs of no instruction and of logs.
 fn print_slices(loops: &[&(&str, Vec<u8>)]) {
     println!("a slice of {SLICE} instructions, {SLICES} slices a round");
-    println!("         library  reference   ratio   over the long run: both");
+    println!("           library  reference   ratio   over the long run: both");
     for (name, image) in loops {
         slices(name, image);
     }
     println!("a run of no instruction: decode and encode");
-    println!("         library  reference   ratio");
+    println!("           library  reference   ratio");
     for (name, image) in loops {
         no_instruction(name, image);
     }
     println!("a run of {LOG_LIMIT} instructions with its log, {LOGS} a round");
-    println!("         library  reference   ratio");
+    println!("           library  reference   ratio");
     for (name, image) in loops {
         logs(name, image);
     }
