@@ -12,12 +12,8 @@ use mathlib.Core.Path.{_≡_}
 use Rattle.state.specs.declared.record.Frame.{Frame}
 use Rattle.state.specs.declared.record.Register.{Register}
 use Rattle.instructions.specs.declared.cycle.Cycle.{Cycle}
-use Rattle.instructions.specs.declared.cycle.Event.{Event}
-use Rattle.instructions.specs.declared.cycle.Event.the-variants as event
 use Rattle.instructions.specs.Instruction.{operateOf, JUMP, RET, takenOf}
-use Rattle.words.specs.declared.instruction.Instruction.{Instruction}
-use Rattle.instructions.specs.Made.{indirectPlace}
-use Rattle.instructions.specs.Cycle.{Progress, moved, entering, cycleAnswer, movedRegisters, settled}
+use Rattle.instructions.specs.Cycle.{Progress, moved, entering, cycleAnswer, movedRegisters, settled, recentBy}
 
 -- whether an opcode jumps to an effective pointer of this tag
 unfoldable pub jumpsOf : ℕ → ℕ → Bool → Bool
@@ -40,15 +36,10 @@ called r pointers stack p way =
 abbrev pub settledAnswer : List ℕ → List ℕ → List ℕ → List ℕ → List Register → ℕ → Frame → Registers → List Pointer → Pointer → Answer Plan → Answer Progress
 settledAnswer lengths rights bases words recent depth frame r pointers q plan = plan >>= settled lengths rights bases words recent depth frame r pointers q
 
--- an untagged effective pointer had an untagged indirect word
-abbrev pub Reached : List Pointer → Instruction → Pointer → Type 0
-Reached pointers i p = p .tag ≡ false → indirectPlace pointers i .tag ≡ false
+-- an untagged effective pointer p had an untagged indirect word, at q
+abbrev pub Reached : Pointer → Pointer → Type 0
+Reached q p = p .tag ≡ false → q .tag ≡ false
 
--- an instruction moved on
-abbrev pub isMoved : Event → Bool
-isMoved event.Moved = true
-isMoved (event.Pointed i p) = true
-isMoved event.Halted = false
-isMoved (event.Entering p) = false
-isMoved (event.Leaving p q) = false
-isMoved (event.Faulted n) = false
+-- the registers after a cycle: those after its references where it moved on, whatever the pointers are
+abbrev pub Renews : Cycle → List Register → List Register → List Register → Type 0
+Renews t after recent next = (pointers : List Pointer) → after ≡ recentBy recent next (cycleAnswer pointers t)

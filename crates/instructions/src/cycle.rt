@@ -2,12 +2,13 @@
 ghost use mathlib.Core.Path.{_≡_};
 ghost use Prim.Native.Nat.{_<_};
 ghost use Rattle.lent_registers.specs.Columns.{registersOf};
-ghost use Rattle.references.specs.Made.{renewedAll};
+ghost use mathlib.Core.List.{_∷_};
+ghost use Rattle.references.specs.Made.{madeRead, renewedAll};
 ghost use Rattle.memory.specs.Reader.{readOf};
 ghost use Rattle.instructions.specs.Instruction.{valueOf, effectOf, executeOf};
 ghost use Rattle.instructions.specs.Cycle.{Stays, cycleAnswer, cycleOf, cycleWords, cycleRecent, settledWords, recentBy};
-ghost use Rattle.instructions.specs.Made.{indirectPlace, madeAt, madeBy};
-ghost use Rattle.instructions.specs.Private.{jumpsOf, settledAnswer, isMoved, Reached};
+ghost use Rattle.instructions.specs.Made.{indirectPlace, operandMade, madeBy};
+ghost use Rattle.instructions.specs.Private.{jumpsOf, settledAnswer, Reached};
 use crate::effects::call;
 use crate::effects::go_to;
 use crate::effects::load;
@@ -15,7 +16,7 @@ use crate::effects::onward;
 use crate::effects::save;
 use crate::effects::stay;
 use crate::made::indirect_place;
-use crate::made::note;
+use crate::made::note_indirect;
 use crate::opcodes::is_load;
 use crate::opcodes::is_store;
 use addressing::effective;
@@ -73,7 +74,7 @@ fn jumps(opcode: u8, a: u32, tag: bool) -> bool
     }
 }
 
-// The effect of an opcode at an effective pointer.
+// The effect of an opcode at an effective pointer; q is the place of the indirect word. Where it moves on, its live references are noted in the registers.
 fn effect<'a>(
     lengths: &'a [u16; 16],
     gates: &'a [u16; 16],
@@ -81,18 +82,20 @@ fn effect<'a>(
     stacks: &'a [u8; 8],
     bases: &'a [u32; 16],
     words: &mut [u32],
-    recent: &[u8; 160],
+    recent: &mut [u8; 160],
     depth: u8,
     frame: Frame,
     r: Registers,
     pointers: [Pointer; 8],
     i: Instruction,
+    q: Pointer,
     p: Pointer,
 ) -> Cycle
-    requires { ⌜ r .word < 65535 ⌝ }
-    ensures { λ t. ⌜ cycleAnswer pointers t ≡ settledAnswer (now (lengths .entry)) (now (rights .entry)) (now (bases .entry)) (now (words .entry)) (registersOf (now (recent .entry))) depth frame r pointers (indirectPlace pointers i) (effectOf (now (lengths .entry)) (now (gates .entry)) (now (rights .entry)) (now (stacks .entry)) depth r pointers (readOf (now (lengths .entry)) (now (rights .entry)) (now (bases .entry)) (now (words .entry)) (r .domain) (registersOf (now (recent .entry))) depth frame) (i .opcode) (i .register) p) ⌝ }
+    requires { ⌜ (r .word < 65535) × Reached q p ⌝ }
+    ensures { λ t. ⌜ cycleAnswer pointers t ≡ settledAnswer (now (lengths .entry)) (now (rights .entry)) (now (bases .entry)) (now (words .entry)) (registersOf (now (recent .entry))) depth frame r pointers q (effectOf (now (lengths .entry)) (now (gates .entry)) (now (rights .entry)) (now (stacks .entry)) depth r pointers (readOf (now (lengths .entry)) (now (rights .entry)) (now (bases .entry)) (now (words .entry)) (r .domain) (registersOf (now (recent .entry))) depth frame) (i .opcode) (i .register) p) ⌝ }
     ensures { λ t. ⌜ now (words .exit) ≡ settledWords (now (lengths .entry)) (now (rights .entry)) (now (bases .entry)) (now (words .entry)) (registersOf (now (recent .entry))) depth frame r pointers (effectOf (now (lengths .entry)) (now (gates .entry)) (now (rights .entry)) (now (stacks .entry)) depth r pointers (readOf (now (lengths .entry)) (now (rights .entry)) (now (bases .entry)) (now (words .entry)) (r .domain) (registersOf (now (recent .entry))) depth frame) (i .opcode) (i .register) p) ⌝ }
     ensures { λ t. ⌜ Stays r t ⌝ }
+    ensures { λ t. ⌜ registersOf (now (recent .exit)) ≡ recentBy (registersOf (now (recent .entry))) (renewedAll (registersOf (now (recent .entry))) depth frame (madeRead q ∷ operandMade (i .opcode) p)) (cycleAnswer pointers t) ⌝ }
 {
     let opcode = i.opcode;
     if is_load(opcode) {
@@ -106,12 +109,25 @@ fn effect<'a>(
             frame,
             r,
             opcode,
+            q,
             p,
         );
     }
     if is_store(opcode) {
         let v = value(opcode, r.a, pointers, i.register);
-        return save(lengths, rights, bases, words, recent, depth, frame, r, p, v);
+        return save(
+            lengths,
+            rights,
+            bases,
+            words,
+            recent,
+            depth,
+            frame,
+            r,
+            q,
+            p,
+            v,
+        );
     }
     if jumps(opcode, r.a, p.tag) {
         let n = jump_check(lengths, rights, r.domain, p);
@@ -121,80 +137,17 @@ fn effect<'a>(
         return go_to(r, p, Event::Moved);
     }
     match opcode {
-        5 => onward(r, r.a, Event::Pointed(i.register, p)),
+        5 => {
+            note_indirect(recent, depth, frame, q);
+            onward(r, r.a, Event::Pointed(i.register, p))
+        }
         8 => call(lengths, gates, rights, stacks, depth, r, p),
-        9 => stay(r, Event::Leaving(p, indirect_place(pointers, i))),
-        _ => onward(r, r.a, Event::Moved),
+        9 => stay(r, Event::Leaving(p, q)),
+        _ => {
+            note_indirect(recent, depth, frame, q);
+            onward(r, r.a, Event::Moved)
+        }
     }
-}
-
-// Whether an instruction moved on.
-fn moves_on(event: Event) -> bool
-    ensures { λ t. ⌜ t ≡ isMoved event ⌝ }
-{
-    match event {
-        Event::Moved => true,
-        Event::Pointed(i, p) => true,
-        Event::Halted => false,
-        Event::Entering(p) => false,
-        Event::Leaving(p, q) => false,
-        Event::Faulted(n) => false,
-    }
-}
-
-// An instruction at its effective pointer; where it moves on, its live references are noted in the registers.
-fn carry_out<'a>(
-    lengths: &'a [u16; 16],
-    gates: &'a [u16; 16],
-    rights: &'a [u8; 128],
-    stacks: &'a [u8; 8],
-    bases: &'a [u32; 16],
-    words: &mut [u32],
-    recent: &mut [u8; 160],
-    depth: u8,
-    frame: Frame,
-    r: Registers,
-    pointers: [Pointer; 8],
-    i: Instruction,
-    p: Pointer,
-) -> Cycle
-    requires { ⌜ (r .word < 65535) × Reached pointers i p ⌝ }
-    ensures { λ t. ⌜ cycleAnswer pointers t ≡ settledAnswer (now (lengths .entry)) (now (rights .entry)) (now (bases .entry)) (now (words .entry)) (registersOf (now (recent .entry))) depth frame r pointers (indirectPlace pointers i) (effectOf (now (lengths .entry)) (now (gates .entry)) (now (rights .entry)) (now (stacks .entry)) depth r pointers (readOf (now (lengths .entry)) (now (rights .entry)) (now (bases .entry)) (now (words .entry)) (r .domain) (registersOf (now (recent .entry))) depth frame) (i .opcode) (i .register) p) ⌝ }
-    ensures { λ t. ⌜ now (words .exit) ≡ settledWords (now (lengths .entry)) (now (rights .entry)) (now (bases .entry)) (now (words .entry)) (registersOf (now (recent .entry))) depth frame r pointers (effectOf (now (lengths .entry)) (now (gates .entry)) (now (rights .entry)) (now (stacks .entry)) depth r pointers (readOf (now (lengths .entry)) (now (rights .entry)) (now (bases .entry)) (now (words .entry)) (r .domain) (registersOf (now (recent .entry))) depth frame) (i .opcode) (i .register) p) ⌝ }
-    ensures { λ t. ⌜ Stays r t ⌝ }
-    ensures { λ t. ⌜ registersOf (now (recent .exit)) ≡ recentBy (registersOf (now (recent .entry))) (renewedAll (registersOf (now (recent .entry))) depth frame (madeAt pointers i p)) (cycleAnswer pointers t) ⌝ }
-{
-    let t = effect(
-        lengths,
-        gates,
-        rights,
-        stacks,
-        bases,
-        words,
-        recent,
-        depth,
-        frame,
-        r,
-        pointers,
-        i,
-        p,
-    );
-    if !p.tag {
-        return t;
-    }
-    let event = t.event;
-    if !moves_on(event) {
-        return t;
-    }
-    note(
-        recent,
-        depth,
-        frame,
-        indirect_place(pointers, i),
-        i.opcode,
-        p,
-    );
-    t
 }
 
 // An instruction: HALT and LIT form no effective pointer.
@@ -238,7 +191,7 @@ fn perform<'a>(
         i,
     ) {
         PointerAnswer::Refused(n) => stay(r, Event::Faulted(n)),
-        PointerAnswer::Pointer(p) => carry_out(
+        PointerAnswer::Pointer(p) => effect(
             lengths,
             gates,
             rights,
@@ -251,6 +204,7 @@ fn perform<'a>(
             r,
             pointers,
             i,
+            indirect_place(pointers, i),
             p,
         ),
     }

@@ -1,5 +1,6 @@
 // The effects of loads, stores and calls, and where an instruction goes on.
 ghost use mathlib.Core.Path.{_≡_};
+ghost use mathlib.Core.List.{[], _∷_};
 ghost use Prim.Native.Nat.{_<_, _+_};
 ghost use Rattle.state.specs.Record.{noPointer};
 ghost use Rattle.lent_registers.specs.Columns.{registersOf};
@@ -9,13 +10,16 @@ ghost use Rattle.transfers.specs.Transfer.{callWay};
 ghost use Rattle.instructions.specs.Instruction.{operateOf};
 ghost use Rattle.pointer_registers.specs.Stack.{stackOf};
 ghost use Rattle.instructions.specs.Cycle.{settled, movedRegisters, Stays};
-ghost use Rattle.instructions.specs.Private.{Cycles, loaded, called};
+ghost use Rattle.instructions.specs.Private.{Cycles, loaded, called, Reached, Renews};
+ghost use Rattle.references.specs.Made.{madeRead, madeWrite, renewedAll};
 use crate::cycle::Cycle;
 use crate::cycle::Event;
+use crate::made::note;
 use memory::WordAnswer;
 use memory::read;
 use memory::write;
 use pointer_registers::stack_of;
+use references::flag::Access;
 use state::record::Frame;
 use state::record::Registers;
 use transfers::CallAnswer;
@@ -78,22 +82,24 @@ pub fn operate(opcode: u8, a: u32, w: u32) -> u32
     difference(a, w)
 }
 
-// LOAD, ADD and SUB.
+// LOAD, ADD and SUB; q is the place of the indirect word.
 pub fn load<'a>(
     lengths: &'a [u16; 16],
     rights: &'a [u8; 128],
     bases: &'a [u32; 16],
     words: &[u32],
-    recent: &[u8; 160],
+    recent: &mut [u8; 160],
     depth: u8,
     frame: Frame,
     r: Registers,
     opcode: u8,
+    q: Pointer,
     p: Pointer,
 ) -> Cycle
-    requires { ⌜ r .word < 65535 ⌝ }
+    requires { ⌜ (r .word < 65535) × Reached q p ⌝ }
     ensures { λ t. ⌜ Cycles t (λ ps. loaded r ps opcode (readOf (now (lengths .entry)) (now (rights .entry)) (now (bases .entry)) (now (words .entry)) (r .domain) (registersOf (now (recent .entry))) depth frame p)) ⌝ }
     ensures { λ t. ⌜ Stays r t ⌝ }
+    ensures { λ t. ⌜ Renews t (registersOf (now (recent .exit))) (registersOf (now (recent .entry))) (renewedAll (registersOf (now (recent .entry))) depth frame (madeRead q ∷ madeRead p ∷ [])) ⌝ }
 {
     match read(
         lengths,
@@ -107,27 +113,32 @@ pub fn load<'a>(
         p,
     ) {
         WordAnswer::Refused(n) => stay(r, Event::Faulted(n)),
-        WordAnswer::Word(w) => onward(r, operate(opcode, r.a, w), Event::Moved),
+        WordAnswer::Word(w) => {
+            note(recent, depth, frame, q, Access::Read, p);
+            onward(r, operate(opcode, r.a, w), Event::Moved)
+        }
     }
 }
 
-// STORE and SPP.
+// STORE and SPP; q is the place of the indirect word.
 pub fn save<'a>(
     lengths: &'a [u16; 16],
     rights: &'a [u8; 128],
     bases: &'a [u32; 16],
     words: &mut [u32],
-    recent: &[u8; 160],
+    recent: &mut [u8; 160],
     depth: u8,
     frame: Frame,
     r: Registers,
+    q: Pointer,
     p: Pointer,
     value: u32,
 ) -> Cycle
-    requires { ⌜ r .word < 65535 ⌝ }
+    requires { ⌜ (r .word < 65535) × Reached q p ⌝ }
     ensures { λ t. ⌜ Cycles t (λ ps. settled (now (lengths .entry)) (now (rights .entry)) (now (bases .entry)) (now (words .entry)) (registersOf (now (recent .entry))) depth frame r ps noPointer (store p value)) ⌝ }
     ensures { λ t. ⌜ now (words .exit) ≡ writtenOf (now (lengths .entry)) (now (rights .entry)) (now (bases .entry)) (now (words .entry)) (r .domain) (registersOf (now (recent .entry))) depth frame p value ⌝ }
     ensures { λ t. ⌜ Stays r t ⌝ }
+    ensures { λ t. ⌜ Renews t (registersOf (now (recent .exit))) (registersOf (now (recent .entry))) (renewedAll (registersOf (now (recent .entry))) depth frame (madeRead q ∷ madeWrite p ∷ [])) ⌝ }
 {
     let n = write(
         lengths,
@@ -144,6 +155,7 @@ pub fn save<'a>(
     if n != 0 {
         return stay(r, Event::Faulted(n));
     }
+    note(recent, depth, frame, q, Access::Write, p);
     onward(r, r.a, Event::Moved)
 }
 

@@ -1,5 +1,5 @@
 // The instructions: everything of an instruction but a crossing.
 pub mod cycle;
 mod effects;
-pub mod made;
+mod made;
 mod opcodes;

@@ -1,12 +1,11 @@
 // The references of a completed instruction, noted in the registers.
 ghost use mathlib.Core.Path.{_≡_};
-ghost use mathlib.Core.List.{_∷_};
+ghost use mathlib.Core.List.{[], _∷_};
 ghost use Rattle.lent_registers.specs.Columns.{registersOf};
 ghost use Rattle.state.specs.Record.{noPointer};
-ghost use Rattle.references.specs.Made.{madeRead, renewedAll};
-ghost use Rattle.instructions.specs.Made.{indirectPlace, operandMade};
-use crate::opcodes::is_load;
-use crate::opcodes::is_store;
+ghost use Rattle.references.specs.Made.{madeRead, renewed, renewedAll};
+ghost use Rattle.instructions.specs.Made.{indirectPlace};
+ghost use Rattle.instructions.specs.Private.{Reached};
 use pointer_registers::pointer_at;
 use references::flag::Access;
 use references::renewal::renew;
@@ -43,16 +42,36 @@ pub fn indirect_place(pointers: [Pointer; 8], i: Instruction) -> Pointer
     }
 }
 
-// The references of an instruction with its indirect word at q and the effective pointer p.
-pub fn note(recent: &mut [u8; 160], depth: u8, frame: Frame, q: Pointer, opcode: u8, p: Pointer)
-    ensures { λ x. ⌜ registersOf (now (recent .exit)) ≡ renewedAll (registersOf (now (recent .entry))) depth frame (madeRead q ∷ operandMade opcode p) ⌝ }
+// The references of an instruction with its indirect word at q and no operand. The tag is tested here, so that an untagged one hands over no frame.
+pub fn note_indirect(recent: &mut [u8; 160], depth: u8, frame: Frame, q: Pointer)
+    ensures { λ x. ⌜ registersOf (now (recent .exit)) ≡ renewed (registersOf (now (recent .entry))) depth frame (madeRead q) ⌝ }
 {
-    renew(recent, depth, frame, Access::Read, q);
-    if is_load(opcode) {
-        renew(recent, depth, frame, Access::Read, p);
-        return;
+    if q.tag {
+        renew(recent, depth, frame, Access::Read, q);
     }
-    if is_store(opcode) {
-        renew(recent, depth, frame, Access::Write, p);
+}
+
+// An indirect word at q, then an operand at p.
+fn note_both(
+    recent: &mut [u8; 160],
+    depth: u8,
+    frame: Frame,
+    q: Pointer,
+    access: Access,
+    p: Pointer,
+)
+    ensures { λ x. ⌜ registersOf (now (recent .exit)) ≡ renewedAll (registersOf (now (recent .entry))) depth frame (madeRead q ∷ record { access = access; pointer = p } ∷ []) ⌝ }
+{
+    note_indirect(recent, depth, frame, q);
+    renew(recent, depth, frame, access, p);
+}
+
+// Those of one with its indirect word at q and its operand at p.
+pub fn note(recent: &mut [u8; 160], depth: u8, frame: Frame, q: Pointer, access: Access, p: Pointer)
+    requires { ⌜ Reached q p ⌝ }
+    ensures { λ x. ⌜ registersOf (now (recent .exit)) ≡ renewedAll (registersOf (now (recent .entry))) depth frame (madeRead q ∷ record { access = access; pointer = p } ∷ []) ⌝ }
+{
+    if p.tag {
+        note_both(recent, depth, frame, q, access, p);
     }
 }

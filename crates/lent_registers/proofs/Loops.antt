@@ -143,12 +143,3 @@ module _ (depth : ℕ) (fits : Capability → Bool) (xs : List ℕ) (i : ℕ) wh
     where
       zero-is : (i : ℕ) → 16 ≤ i → 16 - i ≡ 0
       zero-is i h = omega (arith, h)
-
--- two registers a turn
-pub looks-two : (depth : ℕ) (fits : Capability → Bool) (xs : List ℕ) (i : ℕ) → i + 1 < 16 → Looking depth fits xs i → holds depth fits (registerAt xs i) ≡ false
-    → holds depth fits (registerAt xs (i + 1)) ≡ false → Looking depth fits xs (i + 2)
-looks-two depth fits xs i h l t u =
-    rw (two i) at (looks-on depth fits xs (i + 1) h (looks-on depth fits xs i (omega (arith, h)) l t) u)
-  where
-    two : (i : ℕ) → i + 1 + 1 ≡ i + 2
-    two i = omega arith

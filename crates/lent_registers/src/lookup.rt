@@ -21,7 +21,7 @@ fn is_held(recent: &[u8; 160], i: usize, depth: u8, segment: u8, word: u16, read
     covers(r.capability, segment, word, 1, read, !read)
 }
 
-// The place of the lowest register that holds a match; 16 where none does. Two registers a turn: so large, the compiler keeps it out of line.
+// The place of the lowest register that holds a match; 16 where none does.
 pub fn held(recent: &[u8; 160], depth: u8, segment: u8, word: u16, read: bool) -> usize
     ensures { λ r. ⌜ heldAnswer (now (recent .entry)) r ≡ heldOf depth (coversOf segment word 1 read (not read)) (registersOf (now (recent .entry))) ⌝ }
     ensures { λ r. ⌜ r ≤ 16 ⌝ }
@@ -31,11 +31,7 @@ pub fn held(recent: &[u8; 160], depth: u8, segment: u8, word: u16, read: bool) -
         if is_held(recent, i, depth, segment, word, read) {
             return i;
         }
-        let k = i + 1;
-        if is_held(recent, k, depth, segment, word, read) {
-            return k;
-        }
-        i += 2;
+        i += 1;
     }
     16
 }

@@ -13,7 +13,6 @@ ghost use Rattle.recent.specs.Registers.{risen, touched, enteredIn, withEntry, 
 ghost use Rattle.lent_registers.specs.Columns.{registerAt, registersOf};
 ghost use Rattle.lent_registers.specs.Private.{enteredAt, Ranks, clearedAt};
 use crate::cells::put;
-use crate::cells::register_at;
 use crate::cells::renumber;
 use crate::lookup::held;
 use capabilities::CapabilityAnswer;

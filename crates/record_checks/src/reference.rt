@@ -4,8 +4,10 @@ ghost use Rattle.references.specs.Reference.{indexAnswer};
 ghost use Rattle.record_checks.specs.Judged.{judgedCheck};
 use lent_registers::columns::spread;
 use references::flag::Access;
+use references::flag::asked;
 use references::reference::IndexAnswer;
-use references::reference::reference;
+use references::reference::live_reference;
+use references::reference::locate;
 use soundness::sound;
 use state::bases::bases;
 use state::frames::in_use;
@@ -21,15 +23,25 @@ pub fn check_reference(m: Machine, access: Access, p: Pointer) -> IndexAnswer
         return IndexAnswer::Refused(9);
     }
     let places = bases(&m.layout.lengths);
+    if !p.tag {
+        return locate(
+            &m.layout.lengths,
+            &m.layout.rights,
+            &places,
+            m.registers.domain,
+            asked(access),
+            p.segment,
+            p.word,
+        );
+    }
     let frames = m.frames;
     let frame = live_frame(frames, m.depth);
     let held = m.recent;
     let recent = spread(held);
-    reference(
+    live_reference(
         &m.layout.lengths,
         &m.layout.rights,
         &places,
-        m.registers.domain,
         &recent,
         in_use(m.depth),
         frame,

@@ -33,6 +33,10 @@ indexOf bases segment word = getD bases segment 0 + word
 unfoldable pub locateOf : List ℕ → List ℕ → List ℕ → ℕ → Flag → ℕ → ℕ → Answer ℕ
 locateOf lengths rights bases domain flag segment word = accept (staticOf lengths rights domain flag segment word) (indexOf bases segment word)
 
+-- the index of a word that passes the live check
+unfoldable pub liveReferenceOf : List ℕ → List ℕ → List ℕ → List Register → ℕ → Frame → Access → ℕ → ℕ → Answer ℕ
+liveReferenceOf lengths rights bases recent depth frame access segment word = accept (liveThrough lengths rights recent depth frame access segment word) (indexOf bases segment word)
+
 -- the index of a word that passes the check of a reference
 unfoldable pub referenceOf : List ℕ → List ℕ → List ℕ → ℕ → List Register → ℕ → Frame → Access → Pointer → Answer ℕ
 referenceOf lengths rights bases domain recent depth frame access p = accept (verdictOf lengths rights domain recent depth frame access p) (indexOf bases (p .segment) (p .word))

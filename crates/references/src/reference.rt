@@ -1,7 +1,7 @@
 // The check of a reference by the pointer's tag, and where the word lies.
 ghost use mathlib.Core.Path.{_≡_};
 ghost use Prim.Native.Nat.{_+_};
-ghost use Rattle.references.specs.Reference.{verdictOf, locateOf, referenceOf, indexAnswer};
+ghost use Rattle.references.specs.Reference.{locateOf, liveReferenceOf, referenceOf, indexAnswer};
 ghost use Rattle.lent_registers.specs.Columns.{registersOf};
 use crate::flag::Access;
 use crate::flag::Flag;
@@ -15,35 +15,6 @@ use words::pointer::Pointer;
 pub enum IndexAnswer {
     At(usize),
     Refused(u8),
-}
-
-// 0, or the number of the fault: live for a tagged pointer, static for another.
-pub fn verdict<'a>(
-    lengths: &'a [u16; 16],
-    rights: &'a [u8; 128],
-    domain: u8,
-    recent: &[u8; 160],
-    depth: u8,
-    frame: Frame,
-    access: Access,
-    p: Pointer,
-) -> u8
-    ensures { λ r. ⌜ r ≡ verdictOf (now (lengths .entry)) (now (rights .entry)) domain (registersOf (now (recent .entry))) depth frame access p ⌝ }
-{
-    if p.tag {
-        live_check(
-            lengths,
-            rights,
-            recent,
-            depth,
-            frame,
-            access,
-            p.segment,
-            p.word,
-        )
-    } else {
-        static_check(lengths, rights, domain, asked(access), p.segment, p.word)
-    }
 }
 
 fn index(base: u32, word: u16) -> usize
@@ -72,7 +43,37 @@ pub fn locate<'a>(
     IndexAnswer::At(index(bases[i], word))
 }
 
-// The check of a reference, and where the word lies.
+// The live check, and where the word lies. A run and the check on a record both call it: so the compiler keeps it out of the run's loop.
+pub fn live_reference<'a>(
+    lengths: &'a [u16; 16],
+    rights: &'a [u8; 128],
+    bases: &'a [u32; 16],
+    recent: &[u8; 160],
+    depth: u8,
+    frame: Frame,
+    access: Access,
+    p: Pointer,
+) -> IndexAnswer
+    ensures { λ r. ⌜ indexAnswer r ≡ liveReferenceOf (now (lengths .entry)) (now (rights .entry)) (now (bases .entry)) (registersOf (now (recent .entry))) depth frame access (p .segment) (p .word) ⌝ }
+{
+    let n = live_check(
+        lengths,
+        rights,
+        recent,
+        depth,
+        frame,
+        access,
+        p.segment,
+        p.word,
+    );
+    if n != 0 {
+        return IndexAnswer::Refused(n);
+    }
+    let i = p.segment as usize;
+    IndexAnswer::At(index(bases[i], p.word))
+}
+
+// The check of a reference, and where the word lies: live for a tagged pointer, static for another.
 pub fn reference<'a>(
     lengths: &'a [u16; 16],
     rights: &'a [u8; 128],
@@ -86,10 +87,17 @@ pub fn reference<'a>(
 ) -> IndexAnswer
     ensures { λ r. ⌜ indexAnswer r ≡ referenceOf (now (lengths .entry)) (now (rights .entry)) (now (bases .entry)) domain (registersOf (now (recent .entry))) depth frame access p ⌝ }
 {
-    let n = verdict(lengths, rights, domain, recent, depth, frame, access, p);
-    if n != 0 {
-        return IndexAnswer::Refused(n);
+    if p.tag {
+        live_reference(lengths, rights, bases, recent, depth, frame, access, p)
+    } else {
+        locate(
+            lengths,
+            rights,
+            bases,
+            domain,
+            asked(access),
+            p.segment,
+            p.word,
+        )
     }
-    let i = p.segment as usize;
-    IndexAnswer::At(index(bases[i], p.word))
 }

@@ -2,6 +2,7 @@
 use borrow.Author.Needs.{needs}
 use mathlib.Core.Path.{_≡_, refl, sym, ap, _∙_, subst}
 use Rattle.words.specs.PointerWord.{pointerAnswer}
+use Rattle.words.specs.declared.pointer.Pointer.{Pointer}
 use Rattle.lent_registers.specs.Columns.{registersOf}
 use borrow.Author.Tests.{eq-eqb, ne-eqb}
 use mir.Syntax.{w32}
@@ -10,7 +11,7 @@ use Rattle.words.specs.Offset.{literalOf}
 use Rattle.instructions.specs.Instruction.{executeOf}
 use Rattle.instructions.specs.Cycle.{Stays, cycleAnswer}
 use Rattle.references.specs.Made.{renewedAll}
-use Rattle.instructions.specs.Made.{madeBy}
+use Rattle.instructions.specs.Made.{madeBy, madeAt}
 use Rattle.instructions.proofs.Notes.{stay-recent, move-recent, effective-reached}
 use Rattle.instructions.proofs.cycle.perform.Statement.{statement}
 use Rattle.instructions.proofs.cycle.perform.Tie as tie
@@ -51,10 +52,13 @@ stay-requires-2 c κs = search needs
 enum-known-p : tie.Need-enum-known-p
 enum-known-p c = search needs
 
-carry-out-requires : tie.Need-carry-out-requires
-carry-out-requires c κs =
-    let k = c .before .before .before in
-    (c .before .before .before .before .before .before .before .before .before .before .before .pre, effective-reached _ _ _ _ (sym (k .before .before .effective .ensures) ∙ ap pointerAnswer (k .p .given .1)))
+indirect-place-requires : tie.Need-indirect-place-requires
+indirect-place-requires c κs = search needs
+
+effect-requires : tie.Need-effect-requires
+effect-requires c κs =
+    let k = c .before .before .before .before in
+    (k .before .before .before .before .before .before .before .before .pre, λ t. ap (λ (x : Pointer). x .tag) (c .indirect-place .ensures) ∙ effective-reached _ _ _ _ (sym (k .before .before .effective .ensures) ∙ ap pointerAnswer (k .p .given .1)) t)
 
 same-length : tie.Need-same-length
 same-length c = search needs
@@ -71,13 +75,14 @@ same-length-2 : tie.Need-same-length-2
 same-length-2 c = search needs
 
 returns-4 : tie.Need-returns-4
-unfolding executeOf madeBy renewedAll
+unfolding executeOf madeBy madeAt renewedAll
 returns-4 c =
     let f = c .before .before in
-    let k = f .before .before .before .before in
+    let q = f .before in
+    let k = q .before .before .before .before in
     let e = k .before .before in
     let i = e .before .before .before in
-    simp (ne-eqb _ _ (i .before .if1 .left), ne-eqb _ _ (i .if2 .left), ← e .effective .ensures, k .p .given .1) (f .carry-out .ensures)
+    simp (ne-eqb _ _ (i .before .if1 .left), ne-eqb _ _ (i .if2 .left), ← e .effective .ensures, k .p .given .1) (rw (q .indirect-place .ensures) at (f .effect .ensures))
 
 pub perform-spec : {M : Type 1} → statement M
 perform-spec =
@@ -92,7 +97,8 @@ perform-spec =
     enum-known-n
     stay-requires-2
     enum-known-p
-    carry-out-requires
+    indirect-place-requires
+    effect-requires
     same-length
     returns-3
     same-length-2
