@@ -18,7 +18,7 @@ fn with_and_without_registers_all_is_the_same() {
     assert!(recents.rereads >= 1000, "{tally}");
     assert!(recents.older_replaced >= 300, "{tally}");
     assert!(recents.not_entered >= 300, "{tally}");
-    assert!(recents.fault_between >= 200, "{tally}");
+    assert_eq!(recents.impossible(), 0, "{tally}");
 }
 
 /// Both sides of a machine in the middle of a run.

@@ -1,7 +1,7 @@
 //! What a batch of images reached when the reference ran them.
 
 use crate::handed_on::{self, HandedOn};
-use crate::recent::{self, Recents};
+use crate::recent::Recents;
 use crate::records::fetch_check;
 use crate::DeadGates;
 use reference::record::{ARGUMENT_POINTER, SEGMENTS};
@@ -165,12 +165,11 @@ impl Reached {
             self.count_fault(outcome.err(), 13);
             return outcome;
         };
-        let (machine, memory) = (processor.machine(), processor.memory());
-        let before = handed_on::Before::new(machine, memory, instruction);
-        let recent = recent::Before::new(machine, memory, instruction);
+        let machine = processor.machine().clone();
+        let before = handed_on::Before::new(&machine, processor.memory(), instruction);
         let outcome = processor.step();
         handed_on.count(before, outcome);
-        recents.count(recent, outcome, processor.machine());
+        recents.count(&machine, instruction, outcome, processor);
         let opcode = instruction.opcode as usize;
         self.count_fault(outcome.err(), opcode);
         let completed = outcome?;

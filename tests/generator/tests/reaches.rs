@@ -76,20 +76,12 @@ fn reaches_handed_on_lists(handed_on: &HandedOn) {
     assert!(last >= 50, "into the last frame: {last}");
 }
 
-/// Of 100,000 images at least 1,000 must do each thing with the registers; here
-/// are 20,000.
+/// Runs must do each thing with the registers.
 fn reaches_the_registers(recents: &Recents) {
-    for (what, count) in [
-        ("an argument by a register", recents.rereads),
-        ("an older frame's register replaced", recents.older_replaced),
-        ("a match not entered", recents.not_entered),
-        ("a fault between two references", recents.fault_between),
-        ("registers cleared", recents.cleared),
-    ] {
-        assert!(count >= 200, "{what}: {count}");
+    for (what, count) in recents.named() {
+        assert!(count >= 5, "{what}: {count}");
     }
-    let list = recents.list_not_entered;
-    assert!(list >= 20, "a list not entered: {list}");
+    assert_eq!(recents.impossible(), 0, "faults");
 }
 
 /// What an image says of its gates.
@@ -448,7 +440,7 @@ fn records_about_to_refer_are_sound_and_reach_the_registers() {
     let recents = &reached.recents;
     assert!(with_registers >= 3000, "{with_registers}");
     assert!(recents.rereads >= 300, "{recents}");
+    assert!(recents.several >= 100, "{recents}");
     assert!(recents.older_replaced >= 50, "{recents}");
     assert!(recents.not_entered >= 200, "{recents}");
-    assert!(recents.fault_between >= 200, "{recents}");
 }

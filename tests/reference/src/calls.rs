@@ -67,12 +67,11 @@ impl Processor<'_> {
             return Err(Fault::NoFreeFrame);
         }
         let frame = self.new_frame()?;
-        self.renew();
         let machine = &mut *self.machine;
         machine.frames[usize::from(machine.frame_count)] = frame;
         machine.frame_count += 1;
         if self.uses_registers {
-            recent::enter_list(machine);
+            recent::enter_list(machine, self.renewed.get_or_insert(machine.recent));
         }
         machine.pointers[ARGUMENT_POINTER].tag = true;
         machine.domain = row.gate_domain;
@@ -165,10 +164,10 @@ impl Processor<'_> {
             target.word,
             Flag::Execute,
         )?;
-        self.renew();
         let machine = &mut *self.machine;
         if self.uses_registers {
-            recent::clear(&mut machine.recent, machine.frame_count);
+            let registers = self.renewed.get_or_insert(machine.recent);
+            recent::clear(registers, machine.frame_count);
         }
         machine.frame_count -= 1;
         machine.frames[usize::from(machine.frame_count)] = Frame::default();

@@ -143,8 +143,8 @@ fn first_word(machine: &Machine, segment: u8) -> u32 {
 }
 
 /// The index of the word that the executing domain refers to, or a refusal.
-/// Any `write` but 0 asks to write, any `tag` but 0 is on. The registers are
-/// looked at and stay.
+/// Any `write` but 0 asks to write, any `tag` but 0 is on. Only a copy of the
+/// registers is renewed.
 pub fn check(record: &[u8], write: u8, tag: u8, segment: u8, word: u16) -> u32 {
     let machine = match machine_from_bytes(record) {
         Err(refusal) => return REFUSED + u32::from(refusal.number()),
@@ -153,8 +153,9 @@ pub fn check(record: &[u8], write: u8, tag: u8, segment: u8, word: u16) -> u32 {
     let tag = tag != 0;
     let flag = if write == 0 { Flag::Read } else { Flag::Write };
     let pointer = Pointer { tag, segment, word };
+    let mut copy = machine.recent;
     let checked = match tag {
-        true => recent::live_check(&machine, Reference::new(pointer, flag)),
+        true => recent::refer(&machine, &mut copy, Reference::new(pointer, flag)),
         false => check_reference(&machine, pointer, flag),
     };
     match checked {

@@ -27,17 +27,20 @@ impl Completed {
 }
 
 impl Processor<'_> {
-    /// One instruction. At a fault record and memory are as before it.
+    /// One instruction. At a fault record and memory are as before it, and the
+    /// copy of the registers is dropped.
     #[inline(always)]
     pub fn step(&mut self) -> Result<Completed, Fault> {
         self.made.clear();
+        self.renewed = None;
         let completed = self.instruction()?;
-        self.renew();
+        if let Some(renewed) = self.renewed {
+            self.machine.recent = renewed;
+        }
         Ok(completed)
     }
 
-    /// One instruction, after which the references that it made are still to
-    /// renew the registers, unless it crossed.
+    /// One instruction, but for its copy of the registers.
     #[inline(always)]
     fn instruction(&mut self) -> Result<Completed, Fault> {
         let instruction = self.fetch()?;

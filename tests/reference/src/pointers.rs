@@ -37,25 +37,17 @@ impl Processor<'_> {
         Ok(())
     }
 
-    /// Checks a reference as its tag says. One through a tagged pointer is kept
-    /// until the instruction is completed.
+    /// Makes a reference, checked as its tag says. Through a tagged pointer it
+    /// uses the registers as the instruction's earlier references left them.
     #[inline(always)]
     fn refer(&mut self, pointer: Pointer, flag: Flag) -> Result<(), Fault> {
         if !pointer.tag || !self.uses_registers {
             return check_reference(self.machine, pointer, flag);
         }
         let made = Reference::new(pointer, flag);
-        recent::live_check(self.machine, made)?;
+        let registers = self.renewed.get_or_insert(self.machine.recent);
+        recent::refer(self.machine, registers, made)?;
         self.made.push(made);
         Ok(())
-    }
-
-    /// Renews the registers by each reference that the instruction made, in
-    /// order, with the live frame as it is now.
-    #[inline(always)]
-    pub(crate) fn renew(&mut self) {
-        for made in self.made.drain(..) {
-            recent::renew(self.machine, made);
-        }
     }
 }

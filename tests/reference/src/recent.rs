@@ -1,10 +1,10 @@
 //! The sixteen registers that keep recent capabilities.
 //!
-//! A live check looks for a match in the registers of the live frame before it
-//! searches the frame. Only a completed instruction renews the registers, one
-//! reference after the other.
+//! A reference looks for a match in the registers of the live frame before it
+//! searches the frame, and renews the registers at once if it passes. So an
+//! instruction works on a copy of them, which it keeps if it is completed.
 
-use crate::checks::{self, first_match, static_check, Flag};
+use crate::checks::{first_match, static_check, Flag};
 use crate::numbers::Fault;
 use crate::record::{Capability, Frame, Machine};
 use crate::words::Pointer;
@@ -52,35 +52,49 @@ impl Reference {
     }
 }
 
-/// The lowest register of the live frame whose capability matches.
-pub fn lowest_match(machine: &Machine, made: Reference) -> Option<usize> {
-    let Reference {
-        segment,
-        word,
-        flag,
-    } = made;
-    let live = machine.frame_count;
-    machine.recent.iter().position(|row| {
+/// The registers that match, the lowest first: each holds a capability of the
+/// live frame that has the flag and covers the word.
+pub fn matches(
+    registers: &Registers,
+    live: u8,
+    made: Reference,
+) -> impl Iterator<Item = usize> + '_ {
+    (0..REGISTERS).filter(move |&k| {
+        let Recent {
+            capability, frame, ..
+        } = &registers[k];
         live > 0
-            && row.frame == live
-            && row.capability.has(flag)
-            && row.capability.covers(segment, word, 1)
+            && *frame == live
+            && capability.has(made.flag)
+            && capability.covers(made.segment, made.word, 1)
     })
 }
 
-/// Live check: by the lowest register that matches, whose source must pass the
-/// static check (25 if not), or by the full search if none does.
-pub fn live_check(machine: &Machine, made: Reference) -> Result<(), Fault> {
-    let Reference {
-        segment,
-        word,
-        flag,
-    } = made;
-    let Some(k) = lowest_match(machine, made) else {
-        return checks::live_check(machine, segment, word, flag);
-    };
-    let source = machine.recent[k].capability.source;
-    static_check(machine, source, segment, word, flag).map_err(|_| Fault::SourceFails)
+/// Makes a reference. The lowest register that matches decides and rises; if
+/// none does, the first match of the live frame decides (24 if there is none)
+/// and is entered if it may be. A fault leaves the registers.
+pub fn refer(machine: &Machine, registers: &mut Registers, made: Reference) -> Result<(), Fault> {
+    let live = machine.frame_count;
+    let lowest = matches(registers, live, made).next();
+    if let Some(k) = lowest {
+        source_passes(machine, &registers[k].capability, made)?;
+        rise(registers, k);
+        return Ok(());
+    }
+    let frame = machine.live_frame().ok_or(Fault::NoCapability)?;
+    let found = first_match(frame.capabilities(), made.segment, made.word, made.flag)
+        .ok_or(Fault::NoCapability)?;
+    source_passes(machine, found, made)?;
+    if may_hold(frame, found) {
+        enter(registers, *found, live);
+    }
+    Ok(())
+}
+
+/// The source of a match must pass the static check: 25 if not.
+fn source_passes(machine: &Machine, found: &Capability, made: Reference) -> Result<(), Fault> {
+    static_check(machine, found.source, made.segment, made.word, made.flag)
+        .map_err(|_| Fault::SourceFails)
 }
 
 /// Whether a capability may be entered that comes after these in its frame:
@@ -105,26 +119,6 @@ pub fn may_hold(frame: &Frame, capability: &Capability) -> bool {
     first.is_some_and(|place| may_enter(capability, &rows[..place]))
 }
 
-/// Renews the registers by a reference that passed: its match rises, or the
-/// one that the full search finds is entered if it may be.
-pub fn renew(machine: &mut Machine, made: Reference) {
-    if let Some(k) = lowest_match(machine, made) {
-        return rise(&mut machine.recent, k);
-    }
-    let Some(frame) = machine.live_frame() else {
-        return;
-    };
-    let Reference {
-        segment,
-        word,
-        flag,
-    } = made;
-    let found = first_match(frame.capabilities(), segment, word, flag).copied();
-    if let Some(found) = found.filter(|found| may_hold(frame, found)) {
-        enter(&mut machine.recent, found, machine.frame_count);
-    }
-}
-
 /// A register gets 15; every number above its old one falls by one.
 fn rise(registers: &mut Registers, k: usize) {
     let old = registers[k].recency;
@@ -145,13 +139,13 @@ fn enter(registers: &mut Registers, capability: Capability, frame: u8) {
 
 /// Enters the list capability, the last one of the live frame that a call has
 /// just made, if it may be entered there.
-pub fn enter_list(machine: &mut Machine) {
+pub fn enter_list(machine: &Machine, registers: &mut Registers) {
     let rows = machine.live_frame().map(Frame::capabilities);
-    let Some((&list, earlier)) = rows.and_then(<[Capability]>::split_last) else {
+    let Some((list, earlier)) = rows.and_then(<[Capability]>::split_last) else {
         return;
     };
-    if may_enter(&list, earlier) {
-        enter(&mut machine.recent, list, machine.frame_count);
+    if may_enter(list, earlier) {
+        enter(registers, *list, machine.frame_count);
     }
 }
 

@@ -2,7 +2,7 @@
 
 use crate::instructions::Completed;
 use crate::numbers::{Fault, Refusal};
-use crate::recent::Reference;
+use crate::recent::{Reference, Registers};
 use crate::record::{Machine, SEGMENTS};
 use crate::soundness::is_sound;
 use crate::MEMORY_WORDS;
@@ -15,7 +15,10 @@ pub struct Processor<'a> {
     first_words: [usize; SEGMENTS],
     /// Whether live checks use and renew the registers.
     pub(crate) uses_registers: bool,
-    /// The references through tagged pointers that an instruction made so far.
+    /// The copy of the registers that an instruction works on, once it has used
+    /// one.
+    pub(crate) renewed: Option<Registers>,
+    /// The references through tagged pointers that passed in an instruction.
     pub(crate) made: Vec<Reference>,
 }
 
@@ -30,6 +33,7 @@ impl<'a> Processor<'a> {
             memory,
             first_words,
             uses_registers: true,
+            renewed: None,
             made: Vec::new(),
         })
     }
@@ -51,6 +55,12 @@ impl<'a> Processor<'a> {
     /// The memory as the last instruction left it.
     pub fn memory(&self) -> &[u32] {
         self.memory
+    }
+
+    /// The references through tagged pointers that passed in the last
+    /// instruction, in order, also if it then gave a fault.
+    pub fn made(&self) -> &[Reference] {
+        &self.made
     }
 
     /// Where an existing word lies in the memory.

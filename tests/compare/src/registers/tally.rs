@@ -31,17 +31,9 @@ impl Tally {
 
     /// What was never reached.
     pub fn missing(&self) -> Vec<String> {
-        let recents = &self.reached.recents;
-        let all = [
-            ("an argument by a register", recents.rereads),
-            ("an older frame's register replaced", recents.older_replaced),
-            ("a match not entered", recents.not_entered),
-            ("a list not entered", recents.list_not_entered),
-            ("a fault between two references", recents.fault_between),
-            ("registers cleared", recents.cleared),
-        ];
-        let missing = all.into_iter().filter(|(_, count)| *count == 0);
-        missing.map(|(name, _)| name.to_string()).collect()
+        let all = self.reached.recents.named().into_iter();
+        let missing = all.filter(|(_, count)| *count == 0);
+        missing.map(|(name, _)| name).collect()
     }
 }
 

@@ -90,7 +90,7 @@ pub(super) fn find(machine: &Machine, memory: &[u32], instruction: Instruction) 
 }
 
 /// The effective pointer of an instruction, if it is formed.
-pub(crate) fn effective_pointer(
+fn effective_pointer(
     machine: &Machine,
     memory: &[u32],
     instruction: Instruction,

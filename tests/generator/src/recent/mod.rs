@@ -5,8 +5,8 @@ mod counts;
 mod damage;
 mod image;
 mod records;
+mod uses;
 
-pub(crate) use counts::Before;
 pub use counts::Recents;
 pub use damage::spoil_a_register;
 pub use image::build;
