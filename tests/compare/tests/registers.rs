@@ -18,6 +18,9 @@ fn with_and_without_registers_all_is_the_same() {
     assert!(recents.rereads >= 1000, "{tally}");
     assert!(recents.older_replaced >= 300, "{tally}");
     assert!(recents.not_entered >= 300, "{tally}");
+    for (what, count) in recents.named() {
+        assert!(count >= 30, "{what}\n{tally}");
+    }
     assert_eq!(recents.impossible(), 0, "{tally}");
 }
 

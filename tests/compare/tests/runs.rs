@@ -76,7 +76,7 @@ fn reaches_the_registers(tally: &Tally) {
     assert!(recents.not_entered >= 50, "not entered\n{tally}");
     assert!(recents.cleared >= 300, "cleared\n{tally}");
     for (what, count) in recents.named() {
-        assert!(count >= 1, "{what}\n{tally}");
+        assert!(count >= 10, "{what}\n{tally}");
     }
 }
 

@@ -67,8 +67,8 @@ pub fn damaged_image(seed: u64, index: u64) -> Vec<u8> {
 /// An image that the reader accepts.
 pub fn program(rng: &mut Rng) -> ImageBuilder {
     let mut image = match rng.below(100) {
-        0..=30 => call_tree::build(rng),
-        31..=40 => recent::build(rng),
+        0..=24 => call_tree::build(rng),
+        25..=40 => recent::build(rng),
         41..=56 => handed_on::build(rng),
         57..=60 => far_gates::build(rng),
         61..=64 => call_loop::build(rng),

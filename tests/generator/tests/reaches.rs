@@ -76,10 +76,21 @@ fn reaches_handed_on_lists(handed_on: &HandedOn) {
     assert!(last >= 50, "into the last frame: {last}");
 }
 
-/// Runs must do each thing with the registers.
+/// What fewer than 1,000 of 100,000 images do, and how many of 20,000 must.
+const SELDOM: [(&str, u64); 4] = [
+    ("a call's list not entered", 20),
+    ("25 after words of a list", 80),
+    ("26 after words of a list", 30),
+    ("30 after words of a list", 80),
+];
+
+/// Of 100,000 images at least 1,000 must do each other thing with the
+/// registers; here are 20,000.
 fn reaches_the_registers(recents: &Recents) {
     for (what, count) in recents.named() {
-        assert!(count >= 5, "{what}: {count}");
+        let seldom = SELDOM.iter().find(|(name, _)| *name == what);
+        let least = seldom.map_or(200, |&(_, least)| least);
+        assert!(count >= least, "{what}: {count}");
     }
     assert_eq!(recents.impossible(), 0, "faults");
 }
@@ -243,7 +254,7 @@ fn lists_about_to_be_handed_on_are_found() {
     let mut rng = Rng::new(18, 0);
     let mut found = [0; 3];
     let mut by_frames = [[0; 2]; 8];
-    for _ in 0..3000 {
+    for _ in 0..4000 {
         let Snapshot { machine, memory } = about_to_hand_on(&mut rng);
         assert!(is_sound(&machine));
         let (mut after, mut words) = (machine.clone(), memory.clone());

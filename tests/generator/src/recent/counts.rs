@@ -181,6 +181,7 @@ impl fmt::Display for Recents {
         for (name, count) in self.named() {
             writeln!(out, "  {name} {count}")?;
         }
-        Ok(())
+        let impossible = self.impossible();
+        writeln!(out, "  any other fault after one of these {impossible}")
     }
 }

@@ -1,25 +1,23 @@
 //! Images whose programs use the registers in each way.
 
+use super::faults;
 use crate::random::Rng;
-use crate::subsystem::{arithmetic, image_of, Subsystem};
+use crate::subsystem::{image_of, Subsystem};
 use crate::templates::{chain_image, chain_parts};
 use assembler::*;
 
-/// The tag of a pointer word.
-const TAG: u32 = 0x8000_0000;
-
 /// A whole program, for one of the ways.
 pub fn build(rng: &mut Rng) -> ImageBuilder {
-    match rng.below(20) {
-        0..=3 => rereading(rng),
-        4..=8 => nested(rng),
-        9..=14 => two_claims(rng),
-        _ => faulting_between(rng),
+    match rng.below(100) {
+        0..=13 => rereading(rng),
+        14..=26 => nested(rng),
+        27..=39 => two_claims(rng),
+        _ => faults::build(rng),
     }
 }
 
 /// Where the pointer word of argument k lies in a list.
-fn place(k: u32) -> i32 {
+pub(super) fn place(k: u32) -> i32 {
     (3 + 2 * k) as i32
 }
 
@@ -40,6 +38,32 @@ fn own_list(rng: &mut Rng, part: &mut Subsystem, n: u32, flags: &[u8]) -> (u32, 
     (part.data.block(list.words()), lengths)
 }
 
+/// Words of a block on which all arguments of a list lie, and of each argument:
+/// they begin at its word 0 or 2 in turns.
+const SHARED: u32 = 6;
+const SHARE: u32 = 4;
+
+/// An argument list of `n` claims of a domain on one block. Gives the lengths
+/// too.
+fn list_on_one_block(rng: &mut Rng, part: &mut Subsystem, n: u32) -> (u32, Vec<u32>) {
+    let block = part.linked_block(rng, SHARED);
+    let mut list = ArgumentList::new(0);
+    for k in 0..n {
+        let first = part.data_pointer(block + 2 * (k % 2));
+        list = list.argument(first, SHARE, R);
+    }
+    (part.data.block(list.words()), vec![SHARE; n as usize])
+}
+
+/// Reads a word that only the first of two such claims has, and one that only
+/// the second has.
+fn read_both_ends(rng: &mut Rng, part: &mut Subsystem) {
+    for k in rng.pick(&[[0, 1], [1, 0]]) {
+        part.put(epp(4, A, place(k)).indirect());
+        part.put(load(4, (k * (SHARE - 1)) as i32));
+    }
+}
+
 /// Reads a word of argument k, through a register or through the list.
 fn read_argument(rng: &mut Rng, part: &mut Subsystem, k: u32, length: u32) {
     let read = rng.pick(&[load, add, sub]);
@@ -51,16 +75,23 @@ fn read_argument(rng: &mut Rng, part: &mut Subsystem, k: u32, length: u32) {
     part.put(read(4, rng.below(length) as i32));
 }
 
-/// The report package: the second domain reads its arguments again and again,
-/// each time that it is called.
+/// The report package: the second domain reads its arguments, some of which lie
+/// on the same words, again and again, each time that it is called.
 fn rereading(rng: &mut Rng) -> ImageBuilder {
     let [mut a, mut b, mut c] = chain_parts();
-    let n = rng.between(1, 8);
-    let (list, lengths) = own_list(rng, &mut a, n, &[R, R | W]);
+    let on_one_block = rng.chance(50);
+    let n = rng.between(1 + u32::from(on_one_block), 8);
+    let (list, lengths) = match on_one_block {
+        true => list_on_one_block(rng, &mut a, n),
+        false => own_list(rng, &mut a, n, &[R, R | W]),
+    };
     let start = a.here();
     let times = rng.between(1, 3);
     a.repeat(times, |a| a.call_with_list(list, pointer(2, 0)));
     a.put(halt());
+    if on_one_block {
+        read_both_ends(rng, &mut b);
+    }
     let rounds = rng.between(2, 6);
     b.repeat(rounds, |b| {
         for _ in 0..rng.between(1, 4) {
@@ -248,56 +279,4 @@ fn refer_to_a_claim(rng: &mut Rng, c: &mut Subsystem, claims: &[ClaimOn]) {
     if claim.flags & R != 0 && rng.chance(25) {
         c.put(epp(5, 4, offset).indirect());
     }
-}
-
-/// The second domain is given arguments that it may only read, may only write,
-/// or whose source fails, and one whose words point elsewhere. It uses some,
-/// then refers through an indirect word that it may read to a word that it may
-/// not refer to.
-fn faulting_between(rng: &mut Rng) -> ImageBuilder {
-    let [mut a, mut b, mut c] = chain_parts();
-    let (read, written) = (a.block(rng, 3), a.block(rng, 3));
-    let link = pointer(rng.pick(&[1, 3, 5]), rng.between(200, 300));
-    let links = a.data.block([link, link | TAG, link]);
-    let list = ArgumentList::new(0)
-        .argument(a.data_pointer(read), 3, R)
-        .argument(a.data_pointer(written), 3, W)
-        .argument(a.data_pointer(links), 3, R)
-        .argument(pointer(rng.pick(&[3, 5]), 0), 2, R | W);
-    let list = a.data.block(list.words());
-    let start = a.here();
-    a.repeat(rng.between(1, 3), |a| arithmetic(rng, a));
-    a.call_with_list(list, pointer(2, 0));
-    a.put(halt());
-    b.put(epp(5, A, place(2)).indirect());
-    for _ in 0..rng.between(0, 3) {
-        use_some(rng, &mut b);
-    }
-    refer_in_vain(rng, &mut b);
-    b.put_return();
-    c.put(halt());
-    chain_image(rng, &[a, b, c], start)
-}
-
-/// Uses an argument as it may be used.
-fn use_some(rng: &mut Rng, b: &mut Subsystem) {
-    match rng.below(4) {
-        0 => b.put(store(A, place(1)).indirect()),
-        1 => b.put(load(5, rng.below(3) as i32)),
-        _ => b.put(rng.pick(&[load, add])(A, place(0)).indirect()),
-    }
-}
-
-/// An instruction whose indirect word may be read and whose operand may not be
-/// referred to.
-fn refer_in_vain(rng: &mut Rng, b: &mut Subsystem) {
-    let reading = rng.pick(&[load, add, sub]);
-    b.put(match rng.below(6) {
-        0 => store(A, place(0)).indirect(),
-        1 => spp(6, A, place(0)).indirect(),
-        2 => reading(A, place(1)).indirect(),
-        3 => rng.pick(&[load, store])(A, place(3)).indirect(),
-        4 => store(5, rng.below(3) as i32).indirect(),
-        _ => reading(5, rng.below(3) as i32).indirect(),
-    });
 }

@@ -3,6 +3,7 @@
 
 mod counts;
 mod damage;
+mod faults;
 mod image;
 mod records;
 mod uses;
