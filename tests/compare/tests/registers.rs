@@ -18,6 +18,7 @@ fn with_and_without_registers_all_is_the_same() {
     assert!(recents.rereads >= 1000, "{tally}");
     assert!(recents.older_replaced >= 300, "{tally}");
     assert!(recents.not_entered >= 300, "{tally}");
+    assert!(recents.operand_failed() >= 200, "{tally}");
     for (what, count) in recents.named() {
         assert!(count >= 30, "{what}\n{tally}");
     }

@@ -74,6 +74,7 @@ fn reaches_the_registers(tally: &Tally) {
     assert!(recents.rereads >= 300, "registers' matches\n{tally}");
     assert!(recents.older_replaced >= 50, "replaced\n{tally}");
     assert!(recents.not_entered >= 50, "not entered\n{tally}");
+    assert!(recents.operand_failed() >= 50, "operands failed\n{tally}");
     assert!(recents.cleared >= 300, "cleared\n{tally}");
     for (what, count) in recents.named() {
         assert!(count >= 10, "{what}\n{tally}");

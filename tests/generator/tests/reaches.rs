@@ -454,4 +454,5 @@ fn records_about_to_refer_are_sound_and_reach_the_registers() {
     assert!(recents.several >= 100, "{recents}");
     assert!(recents.older_replaced >= 50, "{recents}");
     assert!(recents.not_entered >= 200, "{recents}");
+    assert!(recents.operand_failed() >= 200, "{recents}");
 }

@@ -121,6 +121,13 @@ impl Recents {
         faults.iter().map(named).collect()
     }
 
+    /// Runs with 24 or 25 at an operand, after an indirect word that would have
+    /// changed the registers.
+    pub fn operand_failed(&self) -> u64 {
+        let [after_indirect, _] = self.faults_between;
+        after_indirect[24 - 21] + after_indirect[25 - 21]
+    }
+
     /// Each thing that a run may do with the registers, with how many did.
     pub fn named(&self) -> Vec<(String, u64)> {
         let uses = [
