@@ -242,7 +242,10 @@ fn main() {
     let with_slices = is_asked("slices");
     let mut asked: Vec<_> = loops.iter().collect();
     asked.retain(|(name, _)| with_slices || is_asked(name));
-    assert!(!asked.is_empty(), "untagged, plain, reread, calls or slices");
+    assert!(
+        !asked.is_empty(),
+        "untagged, plain, reread, calls or slices"
+    );
     println!("ns of CPU time, best of {ROUNDS} rounds");
     println!("an instruction of a long run, {CALLS} runs of {LIMIT} a round");
     println!("           library  reference   ratio");
