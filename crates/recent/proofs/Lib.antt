@@ -13,3 +13,4 @@ pub mod ContentsKept
 pub mod Source
 pub mod Kept
 pub mod Examples
+pub mod Order

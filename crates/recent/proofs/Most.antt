@@ -1,14 +1,15 @@
--- At most sixteen registers have different numbers up to 15.
-use Prim.Native.Nat.{ℕ, zero, suc, _+_, _≤_}
+-- At most sixteen registers have different numbers up to 15, and of sixteen one has each.
+use Prim.Native.Nat.{ℕ, zero, suc, _+_, _-_, _<_, _≤_}
 use native.Mathlib.Omega.{arith}
 use mathlib.Core.Bool.{Bool, true, false}
 use mathlib.Core.List.{List, [], _∷_}
 use mathlib.Core.Path.{_≡_, refl, sym}
 use borrow.Author.Tests.{eqb-true, eqb-false, ltb-true, ltb-false, lt-ltb, le-ltb}
 use lib.Dec.{eqb, ltb}
-use lib.ListN.{length}
+use lib.ListN.{length, getD}
 use Rattle.words.specs.Bit.{bit}
 use Rattle.state.specs.declared.record.Register.{Register}
+use Rattle.state.specs.Record.{noRegister}
 use Rattle.recent.proofs.Logic.{strict}
 use Rattle.recent.proofs.Numbers.{Every, Other, Numbers}
 
@@ -58,3 +59,43 @@ below-all (r ∷ rs) n = rw (lt-ltb (r .recency) 16 (let l = n .0 in omega (arit
 
 pub at-most : (rs : List Register) → Numbers rs → length rs ≤ 16
 at-most rs n = let a = below-le 16 rs n in let b = below-all rs n in omega (arith, a, b)
+
+-- one more for each number up to 16, so never more than one to a number
+below-last : (k j : ℕ) (rs : List Register) → Numbers rs → below (k + j) rs ≤ below k rs + j
+below-last k zero rs n = let e : k + 0 ≡ k = omega arith in rw e (omega arith)
+below-last k (suc j) rs n =
+    let e : k + suc j ≡ suc (k + j) = omega arith in
+    let a = below-step (k + j) rs n in
+    let b = below-last k j rs n in
+    rw e (omega (arith, a, b))
+
+-- sixteen registers lack no number up to 15
+pub none-lacks : (rs : List Register) → Numbers rs → length rs ≡ 16 → (k : ℕ) → k ≤ 15 → Every (Other k) rs → ⊥
+none-lacks rs n l k h o =
+    let e : suc k + (15 - k) ≡ 16 = omega (arith, h) in
+    let a : below 16 rs ≤ below (suc k) rs + (15 - k) = rw (← e) (below-last (suc k) (15 - k) rs n) in
+    let b = below-le k rs n in
+    let c = below-other k rs o in
+    let d = below-all rs n in
+    omega (arith, a, b, c, d, l, h)
+
+-- a register with the number, or all have another
+data Sought (k : ℕ) (rs : List Register) : Type 0 where
+  there : (i : ℕ) → i < length rs → getD rs i noRegister .recency ≡ k → Sought k rs
+  nowhere : Every (Other k) rs → Sought k rs
+
+seek : (k : ℕ) (rs : List Register) → Sought k rs
+seek k [] = nowhere tt
+seek k (r ∷ rs) = by (eqb (r .recency) k) refl (seek k rs)
+  where
+    by : (t : Bool) → eqb (r .recency) k ≡ t → Sought k rs → Sought k (r ∷ rs)
+    by true e s = there 0 (omega arith) (eqb-true (r .recency) k e)
+    by false e (there i l q) = there (suc i) (omega (arith, l)) q
+    by false e (nowhere o) = nowhere (eqb-false (r .recency) k e, o)
+
+pub each-number : (rs : List Register) → Numbers rs → length rs ≡ 16 → (k : ℕ) → k ≤ 15 → (i : ℕ) × (i < 16) × (getD rs i noRegister .recency ≡ k)
+each-number rs n l k h = by (seek k rs)
+  where
+    by : Sought k rs → (i : ℕ) × (i < 16) × (getD rs i noRegister .recency ≡ k)
+    by (there i b q) = (i, omega (arith, b, l), q)
+    by (nowhere o) = absurd (none-lacks rs n l k h o)

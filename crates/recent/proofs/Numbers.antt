@@ -6,9 +6,11 @@ use mathlib.Core.List.{List, [], _∷_, map}
 use mathlib.Core.Path.{_≡_, refl, sym, ap, _∙_}
 use borrow.Author.Tests.{eqb-true, eqb-false, leb-true, le-leb, ltb-true, ltb-false, lt-ltb, eq-eqb, ne-eqb}
 use lib.Dec.{eqb, leb, ltb}
+use lib.ListN.{length, getD}
 use Rattle.words.specs.Answer.{if_then_else_}
 use Rattle.state.specs.declared.record.Capability.{Capability}
 use Rattle.state.specs.declared.record.Register.{Register}
+use Rattle.state.specs.Record.{noRegister}
 use Rattle.recent.specs.Registers.{register, numbered, risen, touched, enteredIn, withEntry}
 use Rattle.recent.specs.SoundRegisters.{absent, numbersTest}
 use Rattle.recent.proofs.Logic.{never, both, join, strict}
@@ -17,6 +19,11 @@ use Rattle.recent.proofs.Logic.{never, both, join, strict}
 abbrev pub Every : (Register → Type 0) → List Register → Type 0
 Every P [] = Unit {0}
 Every P (r ∷ rs) = P r × Every P rs
+
+pub every-at : (P : Register → Type 0) (rs : List Register) → Every P rs → (i : ℕ) → i < length rs → P (getD rs i noRegister)
+every-at P [] e i l = absurd (omega (arith, l))
+every-at P (r ∷ rs) e zero l = e .0
+every-at P (r ∷ rs) e (suc i) l = every-at P rs (e .1) i (omega (arith, l))
 
 -- another number
 abbrev pub Other : ℕ → Register → Type 0

@@ -1,4 +1,4 @@
--- The recency numbers after a return are ranks: different, and at most 15.
+-- The recency numbers after a return are ranks: different, at most 15, and in the order of the places.
 use Prim.Native.Nat.{ℕ, suc, _+_, _<_, _≤_}
 use native.Mathlib.Omega.{arith}
 use mathlib.Core.Bool.{Bool, true, false}
@@ -37,7 +37,7 @@ module _ (frame : ℕ) where
   before-length k (r ∷ rs) = let a = bit-le (ltb (orderOf frame r) k) in let b = before-length k rs in omega (arith, a, b)
 
   -- a register of the list comes before the place after its own, and not before its own
-  abbrev Stands : List Register → Register → Type 0
+  abbrev pub Stands : List Register → Register → Type 0
   Stands rs r = before frame (orderOf frame r) rs < before frame (suc (orderOf frame r)) rs
 
   more : (x : Register) (all rs : List Register) → Every (Stands all) rs → Every (Stands (x ∷ all)) rs
@@ -55,7 +55,7 @@ module _ (frame : ℕ) where
       let b = before-mono n (suc n) (omega arith) rs in
       rw (le-ltb n n (omega arith), lt-ltb n (suc n) (omega arith)) (omega (arith, b))
 
-  stand : (rs : List Register) → Every (Stands rs) rs
+  pub stand : (rs : List Register) → Every (Stands rs) rs
   stand [] = tt
   stand (r ∷ rs) = (first r rs, more r rs rs (stand rs))
 
@@ -80,6 +80,16 @@ module _ (frame : ℕ) where
         by : (t : Bool) → (if t then register noCapability 0 n else numbered r n) .recency ≡ n
         by true = refl
         by false = refl
+
+    -- ranks are as the places are
+    pub ranks-order : (r s : Register) → Stands all r → Stands all s → ltb (clearedIn frame all r .recency) (clearedIn frame all s .recency) ≡ ltb (orderOf frame r) (orderOf frame s)
+    ranks-order r s p q = rw (rank r, rank s) (by (ltb (orderOf frame r) (orderOf frame s)) refl)
+      where
+        by : (t : Bool) → ltb (orderOf frame r) (orderOf frame s) ≡ t → ltb (before frame (orderOf frame r) all) (before frame (orderOf frame s) all) ≡ t
+        by true h =
+            let m = before-mono (suc (orderOf frame r)) (orderOf frame s) (ltb-true _ _ h) all in
+            lt-ltb (before frame (orderOf frame r) all) (before frame (orderOf frame s) all) (omega (arith, m, p))
+        by false h = le-ltb (before frame (orderOf frame r) all) _ (before-mono (orderOf frame s) (orderOf frame r) (ltb-false _ _ h) all)
 
     -- what is known of a register: its number, and that it stands in the list
     abbrev Known : Register → Type 0

@@ -33,5 +33,6 @@ unfoldable pub contentsTest : ℕ → List Frame → List Register → Bool
 contentsTest depth fs [] = true
 contentsTest depth fs (r ∷ rs) = registerTest depth (frameOfRegister fs r) r && contentsTest depth fs rs
 
+-- the registers of a record are sound; that they are sixteen comes from the type of the record's array
 unfoldable pub recentTest : ℕ → List Frame → List Register → Bool
 recentTest depth fs rs = numbersTest rs && contentsTest depth fs rs
