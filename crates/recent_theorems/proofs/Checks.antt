@@ -1,4 +1,4 @@
--- A reference through sound registers answers as with none, and as through those that earlier references left.
+-- A reference through sound registers answers as with none, which is the plain check, and as through those that earlier references left.
 use Prim.Native.Nat.{ℕ, _-_, _≤_}
 use native.Mathlib.Omega.{arith}
 use mathlib.Core.Bool.{true, not}
@@ -10,7 +10,7 @@ use Rattle.words.specs.declared.pointer.Pointer.{Pointer}
 use Rattle.state.specs.declared.record.Register.{Register}
 use Rattle.state.specs.declared.record.Frame.{Frame}
 use Rattle.state.specs.declared.record.Machine.{Machine}
-use Rattle.state.specs.Record.{noFrame, inUse}
+use Rattle.state.specs.Record.{noFrame, inUse, liveFrame}
 use Rattle.state.specs.Bases.{basesOf}
 use Rattle.soundness.proofs.Facts.{sound-facts}
 use Rattle.capabilities.specs.Search.{coversOf}
@@ -28,8 +28,9 @@ use Rattle.references.specs.Reference.{indexOf, accept, verdictOf, referenceOf}
 use Rattle.references.specs.Check.{check}
 use Rattle.references.proofs.Sources.{sourcedBy, through-found}
 use Rattle.memory.specs.Reader.{readOf, readWord}
-use Rattle.recent_theorems.specs.Statements.{withRecent, bare, SameCheck, InOrder}
+use Rattle.recent_theorems.specs.Statements.{withRecent, bare, PlainCheck, SoundCheck, SameCheck, InOrder}
 use Rattle.executions.proofs.RecentKept.{in-use, all-recent}
+use Rattle.executions.proofs.Through.{through-none}
 
 module _ (lengths rights : List ℕ) (depth : ℕ) (fs : List Frame) (rs : List Register) (t : contentsTest depth fs rs ≡ true) (a : Access) where
   abbrev live : Frame
@@ -66,6 +67,19 @@ module _ (m : Machine) (few : m .depth ≤ 8) where
 
 pub same-check : SameCheck
 same-check m s a p = let f = sound-facts m s in bare-check m (f .frames .most) (m .recent) (f .recent) a p
+
+-- with no registers it is the plain check
+pub plain-check : PlainCheck
+unfolding check referenceOf verdictOf
+plain-check m a p =
+    ap
+    (λ (n : ℕ).
+    accept (if p .tag then n else staticOf (m .layout .lengths) (m .layout .rights) (m .registers .domain) (flagOf a) (p .segment) (p .word))
+    (indexOf (basesOf (m .layout .lengths)) (p .segment) (p .word)))
+    (through-none (m .layout .lengths) (m .layout .rights) (inUse (m .depth)) (liveFrame (m .depth) (m .frames)) a (p .segment) (p .word))
+
+pub sound-check : SoundCheck
+sound-check m s a p = same-check m s a p ∙ plain-check m a p
 
 pub in-order : InOrder
 in-order m s before a p =

@@ -4,18 +4,23 @@ use mathlib.Core.Bool.{Bool, true, not}
 use mathlib.Core.List.{List, []}
 use mathlib.Core.Path.{_≡_}
 use lib.ListN.{length, getD}
-use Rattle.words.specs.Answer.{Answer, ok, _>>=_}
+use Rattle.words.specs.Answer.{Answer, ok, _>>=_, if_then_else_}
 use Rattle.words.specs.declared.pointer.Pointer.{Pointer}
+use Rattle.state.specs.declared.record.Layout.{Layout}
 use Rattle.state.specs.declared.record.Capability.{Capability}
+use Rattle.state.specs.declared.record.Frame.{Frame}
 use Rattle.state.specs.declared.record.Register.{Register}
 use Rattle.state.specs.declared.record.Machine.{Machine}
 use Rattle.state.specs.Record.{noRegister, inUse, liveFrame}
+use Rattle.state.specs.Bases.{basesOf}
 use Rattle.soundness.specs.Sound.{soundTest}
 use Rattle.capabilities.specs.Search.{coversOf}
 use Rattle.recent.specs.Found.{holds}
 use Rattle.references.specs.declared.flag.Access.{Access}
-use Rattle.references.specs.Flag.{isRead}
-use Rattle.references.specs.Live.{liveMatch}
+use Rattle.references.specs.Flag.{flagOf, isRead}
+use Rattle.references.specs.Static.{staticOf}
+use Rattle.references.specs.Live.{liveMatch, liveOf}
+use Rattle.references.specs.Reference.{indexOf, accept}
 use Rattle.references.specs.Check.{check}
 use Rattle.references.specs.Made.{MadeReference, renewedAll}
 use Rattle.runs.specs.Step.{Done, done, execute}
@@ -34,6 +39,7 @@ withRecent m rs =
       depth = m .depth;
     }
 
+-- no record of the code is bare: sixteen comes from the type of the record's array
 abbrev pub bare : Machine → Machine
 bare m = withRecent m []
 
@@ -46,6 +52,26 @@ bareRan r = ran (bare (r .machine)) (r .words) (r .count) (r .ending)
 
 abbrev pub bareStep : Step → Step
 bareStep s = record { machine = bare (s .machine); words = s .words; number = s .number; halted = s .halted }
+
+-- 0, or the number of the fault, where no registers occur: live for a tagged pointer, static for another
+abbrev pub plainVerdict : Layout → ℕ → ℕ → Frame → Access → Pointer → ℕ
+plainVerdict layout domain depth frame access p =
+    if p .tag then liveOf (layout .lengths) (layout .rights) depth frame access (p .segment) (p .word)
+    else staticOf (layout .lengths) (layout .rights) domain (flagOf access) (p .segment) (p .word)
+
+-- the check by it, of a machine's layout, executing domain and live frame
+abbrev pub plainCheck : Machine → Access → Pointer → Answer ℕ
+plainCheck m access p =
+    accept (plainVerdict (m .layout) (m .registers .domain) (inUse (m .depth)) (liveFrame (m .depth) (m .frames)) access p)
+    (indexOf (basesOf (m .layout .lengths)) (p .segment) (p .word))
+
+-- every reference of a machine with no registers, sound or not, answers as the plain check
+abbrev pub PlainCheck : Type 0
+PlainCheck = (m : Machine) (access : Access) (p : Pointer) → check (bare m) access p ≡ plainCheck m access p
+
+-- so does every reference of a sound machine, through its registers
+abbrev pub SoundCheck : Type 0
+SoundCheck = (m : Machine) → soundTest m ≡ true → (access : Access) (p : Pointer) → check m access p ≡ plainCheck m access p
 
 -- every reference of a sound machine answers as with no registers at all
 abbrev pub SameCheck : Type 0
