@@ -6,6 +6,8 @@ use mathlib.Core.Path.{_≡_}
 use lib.ListN.{getD, length, set, take}
 use Rattle.state.specs.declared.record.Machine.{Machine}
 use Rattle.state.specs.Record.{noCapability, liveFrame}
+use Rattle.state.specs.Bases.{wordsIn}
+use Rattle.recent.specs.SoundRegisters.{recentTest}
 use Rattle.soundness.specs.Sound.{soundTest}
 use Rattle.references.specs.declared.flag.Flag.the-variants as flag
 use Rattle.references.specs.Flag.{has}
@@ -37,10 +39,14 @@ StepsIsolation =
     (m : Machine) (limit : ℕ) (w v : List ℕ) → length (m .frames) ≡ 8 → judged m w ≡ 0 → judged m v ≡ 0
     → Agree m w v → Isolated m w v (stepsCalled limit 0 m w) (stepsCalled limit 0 m v) (storesOf limit m w) (storesOf limit m v)
 
--- another number in a word that the domain may not see is never noticed; this and the rest need a sound record too
+-- the registers are sound for the frames in use, which are at most eight
+abbrev pub RegistersSound : Machine → Type 0
+RegistersSound m = (m .depth ≤ 8) × (recentTest (m .depth) (m .frames) (m .recent) ≡ true)
+
+-- another number in a word that the domain may not see is never noticed; this and the rest ask of the record only few words and sound registers
 abbrev pub Secrecy : Type 0
 Secrecy =
-    (m : Machine) (limit : ℕ) (w : List ℕ) → soundTest m ≡ true → 8192 ≤ length w
+    (m : Machine) (limit : ℕ) (w : List ℕ) → wordsIn (m .layout .lengths) ≤ 8192 → RegistersSound m → 8192 ≤ length w
     → (s k x : ℕ) → existing m s k ≡ true → maySee m s k ≡ false
     → Isolated m w (set w (place m s k) x) (stretchOf limit m w) (stretchOf limit m (set w (place m s k) x))
     (storesOf limit m w) (storesOf limit m (set w (place m s k) x))
@@ -48,14 +54,14 @@ Secrecy =
 -- the same holds for runs in which no crossing completes
 abbrev pub RunIsolation : Type 0
 RunIsolation =
-    (m : Machine) (limit : ℕ) (w : List ℕ) → soundTest m ≡ true → 8192 ≤ length w
+    (m : Machine) (limit : ℕ) (w : List ℕ) → wordsIn (m .layout .lengths) ≤ 8192 → RegistersSound m → 8192 ≤ length w
     → (v : List ℕ) → 8192 ≤ length v → Agree m w v → (stretchOf limit m w .ending ≡ crossed → ⊥)
     → Isolated m w v (runOf limit m w) (runOf limit m v) (storesOf limit m w) (storesOf limit m v)
 
 -- a word that the domain could not write is unchanged
 abbrev pub Integrity : Type 0
 Integrity =
-    (m : Machine) (limit : ℕ) (w : List ℕ) → soundTest m ≡ true → 8192 ≤ length w
+    (m : Machine) (limit : ℕ) (w : List ℕ) → wordsIn (m .layout .lengths) ≤ 8192 → RegistersSound m → 8192 ≤ length w
     → (s k : ℕ) → existing m s k ≡ true → couldWrite m s k ≡ false → Unchanged m w (stretchOf limit m w) s k
 
 -- no segment on which the executing domain has W
@@ -71,5 +77,5 @@ NoLiveWrite m =
 -- a domain with neither changes no word
 abbrev pub ReadOnly : Type 0
 ReadOnly =
-    (m : Machine) (limit : ℕ) (w : List ℕ) → soundTest m ≡ true → 8192 ≤ length w
+    (m : Machine) (limit : ℕ) (w : List ℕ) → wordsIn (m .layout .lengths) ≤ 8192 → RegistersSound m → 8192 ≤ length w
     → NoWrite m → NoLiveWrite m → (s k : ℕ) → existing m s k ≡ true → Unchanged m w (stretchOf limit m w) s k
