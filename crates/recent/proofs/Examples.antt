@@ -10,8 +10,8 @@ use Rattle.state.specs.declared.record.Frame.{Frame}
 use Rattle.state.specs.declared.record.Register.{Register}
 use Rattle.state.specs.Record.{noPointer}
 use Rattle.capabilities.specs.Search.{coversOf, firstOf}
-use Rattle.recent.specs.Entering.{shares, yields, same, mayEnter, capabilitiesOf}
-use Rattle.recent.specs.Registers.{register, freshRegisters, risen, touched, withEntry, orderOf, before, cleared}
+use Rattle.recent.specs.Entering.{shares, yields, allYield, same, mayEnter, capabilitiesOf}
+use Rattle.recent.specs.Registers.{register, freshRegisters, risen, touched, withEntry, orderOf, before, cleared, listed}
 use Rattle.recent.specs.Found.{heldOf, foundOf, registersAfter}
 
 -- length words of segment 1 from word up, with R, from this source
@@ -65,6 +65,25 @@ oldest-replaced = (refl, refl, refl, refl)
 not-entered : (firstOf (coversOf 1 4 1 true false) (capabilitiesOf frame) ≡ ok (on 3 3 1)) × (reads 1 (4 ∷ 5 ∷ []) freshRegisters ≡ freshRegisters)
 unfolding foundOf heldOf firstOf coversOf mayEnter same yields shares withEntry
 not-entered = (refl, refl)
+
+-- flags do not count: with W alone it would be kept out too
+flags-apart : shares (on 0 4 0) (record { word = 3; length = 3; segment = 1; source = 1; read = false; write = true }) ≡ true
+unfolding shares
+flags-apart = refl
+
+-- a frame with these rows
+abbrev called : ℕ → List Capability → Frame
+called count cs = record { capabilities = cs; s = noPointer; back = noPointer; count = count; domain = 0 }
+
+-- a call enters the list's capability under the new depth
+list-entered : listed 2 (called 1 (on 0 4 0 ∷ [])) freshRegisters ≡ withEntry (on 0 4 0) 2 freshRegisters
+unfolding listed allYield mayEnter same withEntry
+list-entered = refl
+
+-- the list's capability is judged by its own row, the last: an argument equal to it in the first row may be entered, and it is not
+own-row : (mayEnter (on 0 4 0 ∷ on 3 3 1 ∷ on 0 4 0 ∷ []) (on 0 4 0) ≡ true) × (listed 1 (called 3 (on 0 4 0 ∷ on 3 3 1 ∷ on 0 4 0 ∷ [])) freshRegisters ≡ freshRegisters)
+unfolding listed allYield mayEnter same yields shares withEntry
+own-row = (refl, refl)
 
 -- the first register is filled for frame 1, the second for frame 2, and so on in turn
 abbrev four : List Register

@@ -1,22 +1,21 @@
 -- Sixteen registers after a match, an entry and a return.
-use Prim.Native.Nat.{ℕ, zero, suc, _+_, _-_, _<_, _≤_}
+use Prim.Native.Nat.{ℕ, zero, suc, _-_, _<_, _≤_}
 use native.Mathlib.Omega.{arith}
-use mathlib.Core.Bool.{Bool, true, false, not, _&&_, _||_}
+use mathlib.Core.Bool.{Bool, true, false}
 use mathlib.Core.List.{List, [], _∷_, map}
 use mathlib.Core.Path.{_≡_, refl, sym, ap, _∙_}
-use borrow.Author.Tests.{eqb-true, eq-eqb, ne-eqb, lt-ltb, le-ltb, ltb-true, ltb-false}
+use borrow.Author.Tests.{eqb-true, eq-eqb, ne-eqb, lt-ltb, le-ltb}
 use lib.Dec.{eqb, ltb}
 use lib.ListN.{length}
 use Rattle.words.specs.Answer.{if_then_else_}
 use Rattle.state.specs.declared.record.Capability.{Capability}
 use Rattle.state.specs.declared.record.Register.{Register}
 use Rattle.state.specs.Record.{noCapability}
-use Rattle.recent.specs.Entering.{sameFlag}
-use Rattle.recent.specs.Registers.{register, numbered, risen, touched, enteredIn, withEntry, orderOf, clearedIn, cleared}
+use Rattle.recent.specs.Registers.{register, numbered, risen, touched, enteredIn, withEntry, clearedIn, cleared}
 use Rattle.recent.specs.Statements.{Sixteen, registerAt, EachNumber, MatchOrder, EntryOrder, isOf, comesBefore, ReturnOrder}
 use Rattle.recent.proofs.Numbers.{Numbers, every-at, numbers-are, are-numbers, bounded, touched-numbers, entered-numbers}
 use Rattle.recent.proofs.Most.{each-number}
-use Rattle.recent.proofs.Ranks.{Stands, stand, ranks-order, cleared-numbers}
+use Rattle.recent.proofs.Ranks.{order-before, Stands, stand, ranks-order, cleared-numbers}
 use Rattle.recent.proofs.Lengths.{touched-length, entered-length, cleared-length}
 
 mapped-at : (f : Register → Register) (rs : List Register) (i : ℕ) → i < length rs → registerAt (map f rs) i ≡ f (registerAt rs i)
@@ -106,22 +105,7 @@ entry-order rs s c frame =
       falls = at-other rs s c frame;
     }
 
--- places in the order after a return
-order-before : (frame : ℕ) (r s : Register) → r .recency ≤ 15 → s .recency ≤ 15 → ltb (orderOf frame r) (orderOf frame s) ≡ comesBefore frame r s
-unfolding orderOf
-order-before frame r s a b = by (isOf frame r) (isOf frame s)
-  where
-    shifted : (n k : ℕ) (t : Bool) → ltb n k ≡ t → ltb (n + 16) (k + 16) ≡ t
-    shifted n k true e = let l = ltb-true n k e in lt-ltb (n + 16) (k + 16) (omega (arith, l))
-    shifted n k false e = let l = ltb-false n k e in le-ltb (n + 16) (k + 16) (omega (arith, l))
-
-    by : (t u : Bool)
-        → ltb (if t then r .recency else r .recency + 16) (if u then s .recency else s .recency + 16) ≡ ((t && not u) || (sameFlag t u && ltb (r .recency) (s .recency)))
-    by true true = refl
-    by true false = lt-ltb (r .recency) (s .recency + 16) (omega (arith, a))
-    by false true = le-ltb (r .recency + 16) (s .recency) (omega (arith, b))
-    by false false = shifted (r .recency) (s .recency) _ refl
-
+-- a return, for each register
 module _ (rs : List Register) (s : Sixteen rs) (frame : ℕ) where
   cleared-at : (i : ℕ) → i < 16 → registerAt (cleared frame rs) i ≡ clearedIn frame rs (registerAt rs i)
   unfolding cleared

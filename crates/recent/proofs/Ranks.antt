@@ -12,6 +12,7 @@ use Rattle.words.specs.Bit.{bit}
 use Rattle.state.specs.declared.record.Register.{Register}
 use Rattle.state.specs.Record.{noCapability}
 use Rattle.recent.specs.Registers.{register, numbered, orderOf, before, clearedIn, cleared}
+use Rattle.recent.specs.Statements.{isOf, comesBefore}
 use Rattle.recent.proofs.Logic.{strict}
 use Rattle.recent.proofs.Numbers.{Every, Numbers, bounded, renumbered}
 use Rattle.recent.proofs.Most.{bit-le, at-most}
@@ -24,7 +25,22 @@ bit-mono n j k l = by (ltb n j) refl
     by true e = rw (lt-ltb n k (let h = ltb-true n j e in omega (arith, h, l))) (omega arith)
     by false e = omega arith
 
+shifted : (n k : ℕ) (t : Bool) → ltb n k ≡ t → ltb (n + 16) (k + 16) ≡ t
+shifted n k true e = let l = ltb-true n k e in lt-ltb (n + 16) (k + 16) (omega (arith, l))
+shifted n k false e = let l = ltb-false n k e in le-ltb (n + 16) (k + 16) (omega (arith, l))
+
 module _ (frame : ℕ) where
+  -- the places are in the order that is asked for
+  pub order-before : (r s : Register) → r .recency ≤ 15 → s .recency ≤ 15 → ltb (orderOf frame r) (orderOf frame s) ≡ comesBefore frame r s
+  unfolding orderOf
+  order-before r s a b = by (isOf frame r) refl (isOf frame s) refl
+    where
+      by : (t : Bool) → isOf frame r ≡ t → (u : Bool) → isOf frame s ≡ u → ltb (orderOf frame r) (orderOf frame s) ≡ comesBefore frame r s
+      by true e true f = rw (e, f) refl
+      by true e false f = rw (e, f) (lt-ltb (r .recency) (s .recency + 16) (omega (arith, a)))
+      by false e true f = rw (e, f) (le-ltb (r .recency + 16) (s .recency) (omega (arith, b)))
+      by false e false f = rw (e, f) (shifted (r .recency) (s .recency) _ refl)
+
   -- the rank of a place: more registers come before a later place, and never more than there are
   before-mono : (j k : ℕ) → j ≤ k → (rs : List Register) → before frame j rs ≤ before frame k rs
   unfolding before

@@ -26,6 +26,7 @@ EachNumber = (rs : List Register) → Sixteen rs → (n : ℕ) → n ≤ 15 → 
 
 -- what a match of register k makes of the registers
 pub record Matched (k : ℕ) (rs after : List Register) : Type 0 where
+  -- they are sixteen with different numbers again
   pub sixteen : Sixteen after
   -- it gets 15
   pub highest : registerAt after k .recency ≡ 15
@@ -36,17 +37,20 @@ pub record Matched (k : ℕ) (rs after : List Register) : Type 0 where
   -- and nothing changes but the numbers
   pub kept : (i : ℕ) → i < 16 → registerAt after i ≡ numbered (registerAt rs i) (registerAt after i .recency)
 
+-- a match does that, of whatever register
 abbrev pub MatchOrder : Type 0
 MatchOrder = (rs : List Register) → Sixteen rs → (k : ℕ) → k < 16 → Matched k rs (touched (registerAt rs k .recency) rs)
 
 -- what an entry makes of them
 pub record Entered (c : Capability) (frame : ℕ) (rs after : List Register) : Type 0 where
+  -- they are sixteen with different numbers again
   pub sixteen : Sixteen after
   -- there is a register at 0; the entry replaces it and gets 15
   pub replaced : (i : ℕ) × (i < 16) × (registerAt rs i .recency ≡ 0) × (registerAt after i ≡ register c frame 15)
   -- all others fall by one
   pub falls : (i : ℕ) → i < 16 → 0 < registerAt rs i .recency → registerAt after i ≡ numbered (registerAt rs i) (registerAt rs i .recency - 1)
 
+-- an entry does that, of whatever capability
 abbrev pub EntryOrder : Type 0
 EntryOrder = (rs : List Register) → Sixteen rs → (c : Capability) (frame : ℕ) → Entered c frame rs (withEntry c frame rs)
 
@@ -60,6 +64,7 @@ comesBefore frame r s = (isOf frame r && not (isOf frame s)) || (sameFlag (isOf 
 
 -- what a return from the frame makes of them
 pub record Returned (frame : ℕ) (rs after : List Register) : Type 0 where
+  -- they are sixteen with different numbers again
   pub sixteen : Sixteen after
   -- one number is lower than another exactly in that order: the frame's registers are the next replaced, in their old order, and the rest keep theirs
   pub order : (i j : ℕ) → i < 16 → j < 16 → ltb (registerAt after i .recency) (registerAt after j .recency) ≡ comesBefore frame (registerAt rs i) (registerAt rs j)
@@ -68,5 +73,6 @@ pub record Returned (frame : ℕ) (rs after : List Register) : Type 0 where
   -- the others change in nothing but the number
   pub kept : (i : ℕ) → i < 16 → isOf frame (registerAt rs i) ≡ false → registerAt after i ≡ numbered (registerAt rs i) (registerAt after i .recency)
 
+-- a return does that, from whatever frame
 abbrev pub ReturnOrder : Type 0
 ReturnOrder = (rs : List Register) → Sixteen rs → (frame : ℕ) → Returned frame rs (cleared frame rs)
