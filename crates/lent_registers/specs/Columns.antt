@@ -9,7 +9,7 @@ use Rattle.words.specs.Answer.{if_then_else_}
 use Rattle.words.specs.Bit.{bit}
 use Rattle.state.specs.declared.record.Register.{Register}
 
--- register k of the columns recency, frame, segment, source, read, write, and word and length, low byte and high byte
+-- register k of the columns recency, frame, segment, source, read, write, and word and length, low byte and high byte; a flag is on at 1, and off at any other byte
 unfoldable pub registerAt : List ℕ → ℕ → Register
 registerAt xs k =
     record {
