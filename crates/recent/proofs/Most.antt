@@ -93,8 +93,8 @@ seek k (r ∷ rs) = by (eqb (r .recency) k) refl (seek k rs)
     by false e (there i l q) = there (suc i) (omega (arith, l)) q
     by false e (nowhere o) = nowhere (eqb-false (r .recency) k e, o)
 
-pub each-number : (rs : List Register) → Numbers rs → length rs ≡ 16 → (k : ℕ) → k ≤ 15 → (i : ℕ) × (i < 16) × (getD rs i noRegister .recency ≡ k)
-each-number rs n l k h = by (seek k rs)
+pub number-found : (rs : List Register) → Numbers rs → length rs ≡ 16 → (k : ℕ) → k ≤ 15 → (i : ℕ) × (i < 16) × (getD rs i noRegister .recency ≡ k)
+number-found rs n l k h = by (seek k rs)
   where
     by : Sought k rs → (i : ℕ) × (i < 16) × (getD rs i noRegister .recency ≡ k)
     by (there i b q) = (i, omega (arith, b, l), q)

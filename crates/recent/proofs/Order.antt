@@ -12,19 +12,19 @@ use Rattle.state.specs.declared.record.Capability.{Capability}
 use Rattle.state.specs.declared.record.Register.{Register}
 use Rattle.state.specs.Record.{noCapability}
 use Rattle.recent.specs.Registers.{register, numbered, risen, touched, enteredIn, withEntry, clearedIn, cleared}
-use Rattle.recent.specs.Statements.{Sixteen, registerAt, EachNumber, MatchOrder, EntryOrder, isOf, comesBefore, ReturnOrder}
+use Rattle.recent.specs.Statements.{Sixteen, registerIn, EachNumber, MatchOrder, EntryOrder, isOf, comesBefore, ReturnOrder}
 use Rattle.recent.proofs.Numbers.{Numbers, every-at, numbers-are, are-numbers, bounded, touched-numbers, entered-numbers}
-use Rattle.recent.proofs.Most.{each-number}
+use Rattle.recent.proofs.Most.{number-found}
 use Rattle.recent.proofs.Ranks.{order-before, Stands, stand, ranks-order, cleared-numbers}
 use Rattle.recent.proofs.Lengths.{touched-length, entered-length, cleared-length}
 
-mapped-at : (f : Register → Register) (rs : List Register) (i : ℕ) → i < length rs → registerAt (map f rs) i ≡ f (registerAt rs i)
+mapped-at : (f : Register → Register) (rs : List Register) (i : ℕ) → i < length rs → registerIn (map f rs) i ≡ f (registerIn rs i)
 mapped-at f [] i l = absurd (omega (arith, l))
 mapped-at f (r ∷ rs) zero l = refl
 mapped-at f (r ∷ rs) (suc i) l = mapped-at f rs i (omega (arith, l))
 
-pub each-is : EachNumber
-each-is rs s n h = each-number rs (numbers-are rs (s .1)) (s .0) n h
+pub each-number : EachNumber
+each-number rs s n h = number-found rs (numbers-are rs (s .1)) (s .0) n h
 
 module _ (rs : List Register) (s : Sixteen rs) where
   numbers : Numbers rs
@@ -33,7 +33,7 @@ module _ (rs : List Register) (s : Sixteen rs) where
   within : (i : ℕ) → i < 16 → i < length rs
   within i h = let l = s .0 in omega (arith, l, h)
 
-  number-le : (i : ℕ) → i < 16 → registerAt rs i .recency ≤ 15
+  number-le : (i : ℕ) → i < 16 → registerIn rs i .recency ≤ 15
   number-le i h = every-at (λ r. r .recency ≤ 15) rs (bounded rs numbers) i (within i h)
 
   sixteen-of : (after : List Register) → length after ≡ length rs → Numbers after → Sixteen after
@@ -49,16 +49,16 @@ risen-fifteen n h = by (eqb n 15) refl
     by false e = rw (le-ltb 15 n h)
 
 module _ (rs : List Register) (s : Sixteen rs) (old : ℕ) where
-  touched-at : (i : ℕ) → i < 16 → registerAt (touched old rs) i ≡ numbered (registerAt rs i) (risen old (registerAt rs i .recency))
+  touched-at : (i : ℕ) → i < 16 → registerIn (touched old rs) i ≡ numbered (registerIn rs i) (risen old (registerIn rs i .recency))
   unfolding touched
   touched-at i h = by (eqb old 15) refl
     where
       by : (t : Bool) → eqb old 15 ≡ t
-          → registerAt (if t then rs else map (λ r. numbered r (risen old (r .recency))) rs) i ≡ numbered (registerAt rs i) (risen old (registerAt rs i .recency))
-      by true e = rw (eqb-true old 15 e, risen-fifteen (registerAt rs i .recency) (number-le rs s i h)) refl
+          → registerIn (if t then rs else map (λ r. numbered r (risen old (r .recency))) rs) i ≡ numbered (registerIn rs i) (risen old (registerIn rs i .recency))
+      by true e = rw (eqb-true old 15 e, risen-fifteen (registerIn rs i .recency) (number-le rs s i h)) refl
       by false e = mapped-at (λ r. numbered r (risen old (r .recency))) rs i (within rs s i h)
 
-  number-at : (i : ℕ) → i < 16 → registerAt (touched old rs) i .recency ≡ risen old (registerAt rs i .recency)
+  number-at : (i : ℕ) → i < 16 → registerIn (touched old rs) i .recency ≡ risen old (registerIn rs i .recency)
   number-at i h = ap (λ (r : Register). r .recency) (touched-at i h)
 
 risen-same : (old : ℕ) → risen old old ≡ 15
@@ -75,30 +75,30 @@ risen-below old n l = rw (ne-eqb n old (λ e. omega (arith, e, l)), le-ltb old n
 
 pub match-order : MatchOrder
 match-order rs s k h =
-    let old = registerAt rs k .recency in
+    let old = registerIn rs k .recency in
     record {
       sixteen = sixteen-of rs s (touched old rs) (touched-length old rs) (touched-numbers old (number-le rs s k h) rs (numbers rs s));
       highest = number-at rs s old k h ∙ risen-same old;
       falls = λ i l above. number-at rs s old i l ∙ risen-above old _ above;
       stays = λ i l below. number-at rs s old i l ∙ risen-below old _ below;
-      kept = λ i l. touched-at rs s old i l ∙ ap (numbered (registerAt rs i)) (sym (number-at rs s old i l));
+      kept = λ i l. touched-at rs s old i l ∙ ap (numbered (registerIn rs i)) (sym (number-at rs s old i l));
     }
 
 -- an entry, for each register
 module _ (rs : List Register) (s : Sixteen rs) (c : Capability) (frame : ℕ) where
-  entered-at : (i : ℕ) → i < 16 → registerAt (withEntry c frame rs) i ≡ enteredIn c frame (registerAt rs i)
+  entered-at : (i : ℕ) → i < 16 → registerIn (withEntry c frame rs) i ≡ enteredIn c frame (registerIn rs i)
   unfolding withEntry
   entered-at i h = mapped-at (enteredIn c frame) rs i (within rs s i h)
 
-  at-zero : (i : ℕ) → i < 16 → registerAt rs i .recency ≡ 0 → registerAt (withEntry c frame rs) i ≡ register c frame 15
-  at-zero i h e = entered-at i h ∙ rw (eq-eqb (registerAt rs i .recency) 0 e)
+  at-zero : (i : ℕ) → i < 16 → registerIn rs i .recency ≡ 0 → registerIn (withEntry c frame rs) i ≡ register c frame 15
+  at-zero i h e = entered-at i h ∙ rw (eq-eqb (registerIn rs i .recency) 0 e)
 
-  at-other : (i : ℕ) → i < 16 → 0 < registerAt rs i .recency → registerAt (withEntry c frame rs) i ≡ numbered (registerAt rs i) (registerAt rs i .recency - 1)
-  at-other i h l = entered-at i h ∙ rw (ne-eqb (registerAt rs i .recency) 0 (λ e. omega (arith, e, l)))
+  at-other : (i : ℕ) → i < 16 → 0 < registerIn rs i .recency → registerIn (withEntry c frame rs) i ≡ numbered (registerIn rs i) (registerIn rs i .recency - 1)
+  at-other i h l = entered-at i h ∙ rw (ne-eqb (registerIn rs i .recency) 0 (λ e. omega (arith, e, l)))
 
 pub entry-order : EntryOrder
 entry-order rs s c frame =
-    let z = each-is rs s 0 (omega arith) in
+    let z = each-number rs s 0 (omega arith) in
     record {
       sixteen = sixteen-of rs s (withEntry c frame rs) (entered-length c frame rs) (entered-numbers c frame rs (numbers rs s));
       replaced = (z .0, z .1, z .2, at-zero rs s c frame (z .0) (z .1) (z .2));
@@ -107,26 +107,26 @@ entry-order rs s c frame =
 
 -- a return, for each register
 module _ (rs : List Register) (s : Sixteen rs) (frame : ℕ) where
-  cleared-at : (i : ℕ) → i < 16 → registerAt (cleared frame rs) i ≡ clearedIn frame rs (registerAt rs i)
+  cleared-at : (i : ℕ) → i < 16 → registerIn (cleared frame rs) i ≡ clearedIn frame rs (registerIn rs i)
   unfolding cleared
   cleared-at i h = mapped-at (clearedIn frame rs) rs i (within rs s i h)
 
-  stands-at : (i : ℕ) → i < 16 → Stands frame rs (registerAt rs i)
+  stands-at : (i : ℕ) → i < 16 → Stands frame rs (registerIn rs i)
   stands-at i h = every-at (Stands frame rs) rs (stand frame rs) i (within rs s i h)
 
   ranked : (i j : ℕ) → i < 16 → j < 16
-      → ltb (registerAt (cleared frame rs) i .recency) (registerAt (cleared frame rs) j .recency) ≡ comesBefore frame (registerAt rs i) (registerAt rs j)
+      → ltb (registerIn (cleared frame rs) i .recency) (registerIn (cleared frame rs) j .recency) ≡ comesBefore frame (registerIn rs i) (registerIn rs j)
   ranked i j h k =
       rw (cleared-at i h, cleared-at j k)
-      (ranks-order frame rs (registerAt rs i) (registerAt rs j) (stands-at i h) (stands-at j k) ∙ order-before frame (registerAt rs i) (registerAt rs j) (number-le rs s i h) (number-le rs s j k))
+      (ranks-order frame rs (registerIn rs i) (registerIn rs j) (stands-at i h) (stands-at j k) ∙ order-before frame (registerIn rs i) (registerIn rs j) (number-le rs s i h) (number-le rs s j k))
 
   -- the frame's, and the others
-  of-frame : (i : ℕ) → i < 16 → isOf frame (registerAt rs i) ≡ true
-      → registerAt (cleared frame rs) i ≡ register noCapability 0 (registerAt (cleared frame rs) i .recency)
+  of-frame : (i : ℕ) → i < 16 → isOf frame (registerIn rs i) ≡ true
+      → registerIn (cleared frame rs) i ≡ register noCapability 0 (registerIn (cleared frame rs) i .recency)
   of-frame i h e = rw (cleared-at i h, e) refl
 
-  of-another : (i : ℕ) → i < 16 → isOf frame (registerAt rs i) ≡ false
-      → registerAt (cleared frame rs) i ≡ numbered (registerAt rs i) (registerAt (cleared frame rs) i .recency)
+  of-another : (i : ℕ) → i < 16 → isOf frame (registerIn rs i) ≡ false
+      → registerIn (cleared frame rs) i ≡ numbered (registerIn rs i) (registerIn (cleared frame rs) i .recency)
   of-another i h e = rw (cleared-at i h, e) refl
 
 pub return-order : ReturnOrder
