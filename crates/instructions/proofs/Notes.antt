@@ -14,7 +14,7 @@ use Rattle.state.specs.declared.record.Register.{Register}
 use Rattle.state.specs.declared.record.Registers.{Registers}
 use Rattle.state.specs.Record.{noPointer}
 use Rattle.references.proofs.Passes.{never}
-use Rattle.references.specs.Made.{MadeReference, madeRead, madeWrite, renewed, renewedAll}
+use Rattle.references.specs.Made.{MadeReference, madeRead, renewed, renewedAll}
 use Rattle.references.specs.declared.flag.Flag.the-variants as flag
 use Rattle.references.specs.Static.{staticOf}
 use Rattle.transfers.specs.Transfer.{jumpCheck, callWay}
@@ -25,7 +25,7 @@ use Rattle.instructions.specs.declared.cycle.Cycle.{Cycle}
 use Rattle.instructions.specs.declared.cycle.Event.{Event}
 use Rattle.instructions.specs.declared.cycle.Event.the-variants as event
 use Rattle.instructions.specs.Instruction.{isLoad, isStore}
-use Rattle.instructions.specs.Made.{indirectPlace, operandMade, madeAt}
+use Rattle.instructions.specs.Made.{indirectPlace, operandMade}
 use Rattle.instructions.specs.Cycle.{Progress, ended, moved, entering, leaving, eventAnswer, cycleAnswer, recentBy}
 use Rattle.instructions.specs.Private.{Reached, called}
 
@@ -37,10 +37,6 @@ module _ (depth : ℕ) (f : Frame) where
   pub last-noted : (xs ys : List Register) (y : MadeReference) → ys ≡ renewed xs depth f y → ys ≡ renewedAll xs depth f (y ∷ [])
   unfolding renewedAll
   last-noted xs ys y e = e
-
-  pub none-noted : (xs : List Register) → xs ≡ renewedAll xs depth f []
-  unfolding renewedAll
-  none-noted xs = refl
 
   -- an untagged reference does not use the registers
   pub untagged-renewed : (rs : List Register) (x : MadeReference) → x .pointer .tag ≡ false → renewed rs depth f x ≡ rs
@@ -56,13 +52,7 @@ module _ (depth : ℕ) (f : Frame) where
   untagged-indirect rs q e = untagged-renewed rs (madeRead q) e
 
 module _ (opcode : ℕ) (p : Pointer) where
-  pub load-made : isLoad opcode ≡ true → operandMade opcode p ≡ madeRead p ∷ []
-  load-made e = rw e
-
-  pub store-made : isLoad opcode ≡ false → isStore opcode ≡ true → operandMade opcode p ≡ madeWrite p ∷ []
-  store-made e q = rw (e, q)
-
-  pub nothing-made : isLoad opcode ≡ false → isStore opcode ≡ false → operandMade opcode p ≡ []
+  nothing-made : isLoad opcode ≡ false → isStore opcode ≡ false → operandMade opcode p ≡ []
   nothing-made e q = rw (e, q)
 
   -- an opcode without an operand: its indirect word alone is noted, and an untagged one not at all

@@ -9,7 +9,7 @@ ghost use Rattle.recent.specs.Entering.{capabilitiesOf};
 ghost use Rattle.recent.specs.Found.{registersAfter, searched, referredTo};
 ghost use lib.Dec.{ltb};
 ghost use Rattle.words.specs.Bit.{bit};
-ghost use Rattle.recent.specs.Registers.{risen, touched, enteredIn, withEntry, orderOf, before, clearedIn, cleared, listed};
+ghost use Rattle.recent.specs.Registers.{risen, touched, withEntry, orderOf, before, cleared, listed};
 ghost use Rattle.lent_registers.specs.Columns.{registerAt, registersOf};
 ghost use Rattle.lent_registers.specs.Private.{enteredAt, Ranks, clearedAt};
 use crate::cells::put;
