@@ -101,3 +101,8 @@ older-frame : (heldOf 1 (coversOf 1 0 1 true false) (register (on 0 4 0) 1 15 �
     (heldOf 2 (coversOf 1 0 1 true false) (register (on 0 4 0) 1 15 ∷ []) ≡ refuse 24)
 unfolding heldOf coversOf
 older-frame = (refl, refl)
+
+-- of two that match, the lowest register's counts, whatever their numbers
+lowest-match : heldOf 1 (coversOf 1 0 1 true false) (register (on 0 4 0) 1 3 ∷ register (on 0 2 0) 1 9 ∷ []) ≡ ok (register (on 0 4 0) 1 3)
+unfolding heldOf coversOf
+lowest-match = refl
