@@ -14,6 +14,7 @@ use Rattle.state.specs.Record.{noFrame, inUse, liveFrame}
 use Rattle.state.specs.Bases.{basesOf}
 use Rattle.soundness.proofs.Facts.{sound-facts}
 use Rattle.capabilities.specs.Search.{coversOf}
+use Rattle.recent.specs.Found.{foundOf}
 use Rattle.recent.specs.SoundRegisters.{contentsTest, recentTest}
 use Rattle.recent.proofs.Clear.{covers-clear}
 use Rattle.recent.proofs.Source.{found-source}
@@ -28,7 +29,7 @@ use Rattle.references.specs.Reference.{indexOf, accept, verdictOf, referenceOf}
 use Rattle.references.specs.Check.{check}
 use Rattle.references.proofs.Sources.{sourcedBy, through-found}
 use Rattle.memory.specs.Reader.{readOf, readWord}
-use Rattle.recent_theorems.specs.Statements.{withRecent, bare, PlainCheck, SoundCheck, SameCheck, InOrder}
+use Rattle.recent_theorems.specs.Statements.{withRecent, bare, PlainCheck, SoundCheck, SameCheck, InOrder, Consulted}
 use Rattle.executions.proofs.RecentKept.{in-use, all-recent}
 use Rattle.executions.proofs.Through.{through-none}
 
@@ -87,3 +88,8 @@ in-order m s before a p =
     let few = f .frames .most in
     let t = all-recent (m .depth) (m .frames) few (m .recent) (f .recent) before in
     bare-check m few _ t a p ∙ sym (bare-check m few (m .recent) (f .recent) a p)
+
+-- the lowest registered match decides
+pub consulted : Consulted
+unfolding check referenceOf verdictOf liveThrough foundOf
+consulted m access p r t d h = simp (t, d, h)

@@ -1,8 +1,9 @@
 -- What is proved of the registers of recent capabilities; the proofs stand in proofs/.
 use Prim.Native.Nat.{ℕ}
-use mathlib.Core.Bool.{Bool, true, not}
+use mathlib.Core.Bool.{Bool, true, false, not}
 use mathlib.Core.List.{List, []}
 use mathlib.Core.Path.{_≡_}
+use lib.Dec.{eqb}
 use lib.ListN.{length, getD}
 use Rattle.words.specs.Answer.{Answer, ok, _>>=_, if_then_else_}
 use Rattle.words.specs.declared.pointer.Pointer.{Pointer}
@@ -15,11 +16,11 @@ use Rattle.state.specs.Record.{noRegister, inUse, liveFrame}
 use Rattle.state.specs.Bases.{basesOf}
 use Rattle.soundness.specs.Sound.{soundTest}
 use Rattle.capabilities.specs.Search.{coversOf}
-use Rattle.recent.specs.Found.{holds}
+use Rattle.recent.specs.Found.{holds, heldOf}
 use Rattle.references.specs.declared.flag.Access.{Access}
 use Rattle.references.specs.Flag.{flagOf, isRead}
 use Rattle.references.specs.Static.{staticOf}
-use Rattle.references.specs.Live.{liveMatch, liveOf}
+use Rattle.references.specs.Live.{liveMatch, liveOf, sourced}
 use Rattle.references.specs.Reference.{indexOf, accept}
 use Rattle.references.specs.Check.{check}
 use Rattle.references.specs.Made.{MadeReference, renewedAll}
@@ -87,7 +88,7 @@ SameRun =
     (m : Machine) (words : List ℕ) → soundTest m ≡ true → length (m .frames) ≡ 8 → (stretch : Bool) (k n : ℕ)
     → bareRan (runFrom stretch k n m words) ≡ runFrom stretch k n (bare m) words
 
--- and the calls
+-- and the calls run, stretch and step
 abbrev pub SameRunCall : Type 0
 SameRunCall =
     (m : Machine) (words : List ℕ) → soundTest m ≡ true → length (m .frames) ≡ 8 → (limit : ℕ)
@@ -114,6 +115,13 @@ InOrder =
 -- a capability allows the access to a word, if its source may
 abbrev pub allows : Access → ℕ → ℕ → Capability → Bool
 allows access segment word = coversOf segment word 1 (isRead access) (not (isRead access))
+
+-- the registers are consulted: of any record, sound or not, the lowest register that holds a match decides a live reference, whatever the frame has
+abbrev pub Consulted : Type 0
+Consulted =
+    (m : Machine) (access : Access) (p : Pointer) (r : Register) → p .tag ≡ true → eqb (inUse (m .depth)) 0 ≡ false
+    → heldOf (inUse (m .depth)) (allows access (p .segment) (p .word)) (m .recent) ≡ ok r
+    → check m access p ≡ accept (sourced (m .layout .lengths) (m .layout .rights) access (p .segment) (p .word) (ok (r .capability))) (indexOf (basesOf (m .layout .lengths)) (p .segment) (p .word))
 
 -- a registered match has the source of the live frame's first match
 abbrev pub MatchSource : Type 0
