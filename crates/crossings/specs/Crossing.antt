@@ -4,7 +4,7 @@ use mathlib.Core.Bool.{Bool, true, _&&_}
 use mathlib.Core.List.{List}
 use lib.Dec.{eqb, leb}
 use lib.ListN.{getD, set}
-use Rattle.words.specs.Answer.{Answer, ok, _>>=_, _>>_, if_then_else_}
+use Rattle.words.specs.Answer.{Answer, ok, _>>=_, if_then_else_}
 use Rattle.words.specs.Numbers.{badReturn}
 use Rattle.words.specs.declared.pointer.Pointer.{Pointer}
 use Rattle.state.specs.declared.record.Frame.{Frame}

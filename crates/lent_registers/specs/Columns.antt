@@ -1,12 +1,8 @@
 -- The registers as the loop lends them: ten columns of sixteen bytes.
-use Prim.Native.Nat.{ℕ, zero, suc, _+_, _*_, _<_, _%_, _/_}
-use mathlib.Core.Bool.{Bool}
+use Prim.Native.Nat.{ℕ, zero, suc, _+_, _*_}
 use mathlib.Core.List.{List, [], _∷_}
-use mathlib.Core.Path.{_≡_}
 use lib.Dec.{eqb}
-use lib.ListN.{getD, set}
-use Rattle.words.specs.Answer.{if_then_else_}
-use Rattle.words.specs.Bit.{bit}
+use lib.ListN.{getD}
 use Rattle.state.specs.declared.record.Register.{Register}
 
 -- register k of the columns recency, frame, segment, source, read, write, and word and length, low byte and high byte; a flag is on at 1, and off at any other byte

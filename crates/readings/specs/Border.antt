@@ -10,8 +10,9 @@ use Rattle.state.specs.declared.record.Capability.{Capability}
 use Rattle.state.specs.declared.record.Frame.{Frame}
 use Rattle.state.specs.declared.record.Machine.{Machine}
 use Rattle.state.specs.Record.{noPointer, noCapability, freeFrame}
+use Rattle.recent.specs.Registers.{register}
 use Rattle.readings.specs.Scene.{untaggedTo, taggedTo, grant, readOn, writeOn, frameWith, sceneFrame, lent, lending, inFrames, machineOf, sceneMemory}
-use Rattle.readings.specs.Change.{lengthTo, gatesTo, gatedomainTo, stackTo, rightTo, startTo, relaid, locatedAt, pointing, frameTo}
+use Rattle.readings.specs.Change.{lengthTo, gatesTo, gatedomainTo, stackTo, rightTo, startTo, relaid, locatedAt, pointing, frameTo, recentTo}
 use Rattle.readings.specs.Question.{Row, running, _gives_}
 
 -- a run of no instructions goes through, or is refused with 9
@@ -164,6 +165,23 @@ frameBorders =
     zeroFrame (withFree 1) ++
     zeroFrame (withFree 7)
 
+-- two capabilities of two sources that share a word: the later may not be entered
+abbrev sharing : Machine
+sharing = inFrame (sceneFrame (lent ∷ readOn 0 0 2 1 ∷ []))
+
+-- the ranges of the registers of recent capabilities: their numbers, the frames in use, what may be entered, and zeros in empty ones
+abbrev recentBorders : List Row
+recentBorders =
+    upTo 15 (λ n. recentTo 15 (register noCapability 0 n) (inFrame lending)) ++
+    unsound (recentTo 15 (register noCapability 0 14) (inFrame lending)) ∷
+    unsound (recentTo 15 (register noCapability 0 0) (inFrame lending)) ∷
+    upTo 1 (λ n. recentTo 0 (register lent n 0) (inFrame lending)) ++
+    upTo 8 (λ n. recentTo 15 (register lent n 15) (inFrames (replicate 8 lending) small)) ++
+    unsound (recentTo 0 (register (readOn 0 0 2 0) 1 0) (inFrame lending)) ∷
+    sound (recentTo 0 (register lent 1 0) sharing) ∷
+    unsound (recentTo 0 (register (readOn 0 0 2 1) 1 0) sharing) ∷
+    zeroCapability (λ c. recentTo 0 (register c 0 0) (inFrame lending))
+
 -- every range
 abbrev pub borders : List Row
-borders = layoutBorders ++ gateBorders ++ registerBorders ++ frameBorders
+borders = layoutBorders ++ gateBorders ++ registerBorders ++ frameBorders ++ recentBorders

@@ -6,6 +6,7 @@ use Rattle.words.specs.declared.pointer.Pointer.{Pointer}
 use Rattle.state.specs.declared.record.Start.{Start}
 use Rattle.state.specs.declared.record.Layout.{Layout}
 use Rattle.state.specs.declared.record.Frame.{Frame}
+use Rattle.state.specs.declared.record.Register.{Register}
 use Rattle.state.specs.declared.record.Registers.{Registers}
 use Rattle.state.specs.declared.record.Machine.{Machine}
 use Rattle.fresh.specs.Fresh.{freshOf}
@@ -72,6 +73,10 @@ pointing i p m = record { layout = m .layout; registers = m .registers; pointers
 -- frame i becomes f, and as many frames stay in use
 abbrev pub frameTo : ℕ → Frame → Machine → Machine
 frameTo i f m = record { layout = m .layout; registers = m .registers; pointers = m .pointers; frames = set (m .frames) i f; recent = m .recent; depth = m .depth }
+
+-- another register of recent capabilities
+abbrev pub recentTo : ℕ → Register → Machine → Machine
+recentTo i r m = record { layout = m .layout; registers = m .registers; pointers = m .pointers; frames = m .frames; recent = set (m .recent) i r; depth = m .depth }
 
 -- the machine of a scene with this A and this pointer in register 0; its instruction is at word 0 of segment 0
 abbrev pub startOf : Scene → ℕ → Pointer → Machine

@@ -3,7 +3,7 @@ use Prim.Native.Nat.{ℕ, _-_, _≤_}
 use native.Mathlib.Omega.{arith}
 use mathlib.Core.Bool.{true, not}
 use mathlib.Core.List.{List, []}
-use mathlib.Core.Path.{_≡_, sym, ap, _∙_, fun-ext}
+use mathlib.Core.Path.{_≡_, refl, sym, ap, _∙_, fun-ext}
 use lib.ListN.{getD}
 use Rattle.words.specs.Answer.{Answer, ok, _>>=_, if_then_else_}
 use Rattle.words.specs.declared.pointer.Pointer.{Pointer}
@@ -29,7 +29,9 @@ use Rattle.references.specs.Reference.{indexOf, accept, verdictOf, referenceOf}
 use Rattle.references.specs.Check.{check}
 use Rattle.references.proofs.Sources.{sourcedBy, through-found}
 use Rattle.memory.specs.Reader.{readOf, readWord}
-use Rattle.recent_theorems.specs.Statements.{withRecent, bare, PlainCheck, SoundCheck, SameCheck, InOrder, Consulted}
+use Rattle.instructions.specs.Instruction.{isLoad, isStore}
+use Rattle.instructions.specs.Made.{madeAt}
+use Rattle.recent_theorems.specs.Statements.{withRecent, bare, PlainCheck, SoundCheck, SameCheck, InOrder, Consulted, ReadsChecked, InstructionNotes}
 use Rattle.executions.proofs.RecentKept.{in-use, all-recent}
 use Rattle.executions.proofs.Through.{through-none}
 
@@ -93,3 +95,13 @@ in-order m s before a p =
 pub consulted : Consulted
 unfolding check referenceOf verdictOf liveThrough foundOf
 consulted m access p r t d h = simp (t, d, h)
+
+-- an instruction's reads go through the check
+pub reads-checked : ReadsChecked
+unfolding readWord readOf check
+reads-checked m words p = refl
+
+-- what is noted, opcode by opcode
+pub instruction-notes : InstructionNotes
+unfolding madeAt isLoad isStore
+instruction-notes pointers i p = (refl, refl, refl, refl)

@@ -1,7 +1,7 @@
 -- A worked machine: a call through a gate enters the list's capability, LOADs match and enter, a return clears, a fault leaves all.
 use Prim.Native.Nat.{ℕ, _+_, _-_}
 use mathlib.Core.Bool.{true, false}
-use mathlib.Core.List.{List, [], _∷_, _++_}
+use mathlib.Core.List.{List, [], _∷_, _++_, map}
 use mathlib.Core.Path.{_≡_, refl}
 use lib.ListN.{length, replicate}
 use Rattle.words.specs.Field.{field, common}
@@ -11,7 +11,9 @@ use Rattle.words.specs.InstructionWord.{instructionOf}
 use Rattle.words.specs.ModeWord.{modeOf}
 use Rattle.state.specs.declared.record.Layout.{Layout}
 use Rattle.state.specs.declared.record.Capability.{Capability}
+use Rattle.state.specs.declared.record.Frame.{Frame}
 use Rattle.state.specs.declared.record.Machine.{Machine}
+use Rattle.words.specs.declared.pointer.Pointer.{Pointer}
 use Rattle.state.specs.Record.{noCapability}
 use Rattle.state.specs.Bases.{baseOf, basesOf}
 use Rattle.fresh.specs.Fresh.{freshOf}
@@ -26,13 +28,13 @@ use Rattle.references.specs.Flag.{has}
 use Rattle.references.specs.Static.{exists, rightsOf, staticOf}
 use Rattle.references.specs.Live.{liveThrough}
 use Rattle.references.specs.Reference.{verdictOf, locateOf, referenceOf}
-use Rattle.references.specs.Made.{renewed, renewedAll}
+use Rattle.references.specs.Made.{madeRead, renewed, renewedAll}
 use Rattle.memory.specs.Reader.{readOf, fetchOf, readWord, fetch}
 use Rattle.addressing.specs.Effective.{displacedBy, throughOf, effectiveOf}
 use Rattle.transfers.specs.Transfer.{callWay}
 use Rattle.instructions.specs.Instruction.{callOf, returnOf, loadOf, isLoad, isStore, effectOf, executeOf, planOf}
 use Rattle.instructions.specs.Made.{indirectPlace, madeAt, madeBy}
-use Rattle.arguments.specs.ArgumentList.{listWord, listPointer, sourceOf, capabilityOf, argumentOf, argumentsFrom, frameAfter, frameOf}
+use Rattle.arguments.specs.ArgumentList.{listMade, listWord, listPointer, sourceOf, capabilityOf, argumentOf, argumentsFrom, frameAfter, frameOf}
 use Rattle.crossings.specs.Crossing.{calledRecent, leftRecent, entered, left, enterOf, leaveCheck, leaveOf}
 use Rattle.runs.specs.Step.{recentAfter, decide, commit, execute}
 use Rattle.runs.specs.Run.{Ran, faulted, runFrom}
@@ -112,3 +114,20 @@ unfolding field common signedOf displacedOf pointerOf instructionOf modeOf baseO
     allFrom segmentTest stackTest rightsTest startTest gateTest gatesTest rangesTest layoutTest registersTest pointerTest pointersTest capabilityTest emptyCapability emptyPointer emptyFrame frameTest
     framesTest soundTest absent numbersTest registerTest contentsTest recentTest
 computed rest = record { called = refl; first = refl; second = refl; again = refl; sound = refl; returned = refl; failed = (refl, refl); kept = refl }
+
+-- words 8 to 14 of segment 1 as a list of two arguments, handed on through a tagged a by a domain to which a frame lends them
+abbrev handed : Pointer
+handed = record { word = 8; segment = 1; tag = true }
+
+abbrev framed : List Capability → Frame
+framed cs = record { capabilities = cs; s = handed; back = handed; count = length cs; domain = 0 }
+
+-- its words are noted but for word 2
+list-noted : listMade handed 7 0 ≡ map (λ word. madeRead (record { word = word; segment = 1; tag = true })) (8 ∷ 9 ∷ 11 ∷ 12 ∷ 13 ∷ 14 ∷ [])
+unfolding displacedOf displacedBy
+list-noted = refl
+
+-- so the capability that lends them is entered for frame 1, and then the list's for frame 2
+relay-called : calledRecent (emptyFrom 16 0) 1 (framed (on 8 7 ∷ [])) handed (framed (on 20 1 ∷ on 21 1 ∷ on 8 7 ∷ [])) ≡ register (on 8 7) 1 14 ∷ register (on 8 7) 2 15 ∷ emptyFrom 14 0
+unfolding displacedOf displacedBy coversOf firstOf shares yields allYield same mayEnter risen touched filled listed heldOf foundOf referredTo renewed renewedAll calledRecent
+relay-called = refl

@@ -1,12 +1,13 @@
 -- What is proved of the registers of recent capabilities; the proofs stand in proofs/.
 use Prim.Native.Nat.{ℕ}
 use mathlib.Core.Bool.{Bool, true, false, not}
-use mathlib.Core.List.{List, []}
+use mathlib.Core.List.{List, [], _∷_, map}
 use mathlib.Core.Path.{_≡_}
 use lib.Dec.{eqb}
-use lib.ListN.{length, getD}
+use lib.ListN.{length, getD, replicate}
 use Rattle.words.specs.Answer.{Answer, ok, _>>=_, if_then_else_}
 use Rattle.words.specs.declared.pointer.Pointer.{Pointer}
+use Rattle.words.specs.declared.instruction.Instruction.{Instruction}
 use Rattle.state.specs.declared.record.Layout.{Layout}
 use Rattle.state.specs.declared.record.Capability.{Capability}
 use Rattle.state.specs.declared.record.Frame.{Frame}
@@ -18,12 +19,16 @@ use Rattle.soundness.specs.Sound.{soundTest}
 use Rattle.capabilities.specs.Search.{coversOf}
 use Rattle.recent.specs.Found.{holds, heldOf}
 use Rattle.references.specs.declared.flag.Access.{Access}
+use Rattle.references.specs.declared.flag.Access.the-variants as access
 use Rattle.references.specs.Flag.{flagOf, isRead}
 use Rattle.references.specs.Static.{staticOf}
 use Rattle.references.specs.Live.{liveMatch, liveOf, sourced}
 use Rattle.references.specs.Reference.{indexOf, accept}
 use Rattle.references.specs.Check.{check}
-use Rattle.references.specs.Made.{MadeReference, renewedAll}
+use Rattle.references.specs.Made.{MadeReference, madeRead, madeWrite, renewedAll}
+use Rattle.memory.specs.Reader.{readWord}
+use Rattle.instructions.specs.Instruction.{LOAD, STORE, ADD, SUB, EPP, SPP, JUMP, CALL, RET, JZ, JM}
+use Rattle.instructions.specs.Made.{indirectPlace, operandMade, madeAt}
 use Rattle.runs.specs.Step.{Done, done, execute}
 use Rattle.runs.specs.Run.{Ran, ran, runFrom}
 use Rattle.processor.specs.Calls.{Step, runCall, stretchCall, stepCall}
@@ -122,6 +127,19 @@ Consulted =
     (m : Machine) (access : Access) (p : Pointer) (r : Register) → p .tag ≡ true → eqb (inUse (m .depth)) 0 ≡ false
     → heldOf (inUse (m .depth)) (allows access (p .segment) (p .word)) (m .recent) ≡ ok r
     → check m access p ≡ accept (sourced (m .layout .lengths) (m .layout .rights) access (p .segment) (p .word) (ok (r .capability))) (indexOf (basesOf (m .layout .lengths)) (p .segment) (p .word))
+
+-- what an instruction reads goes through that check
+abbrev pub ReadsChecked : Type 0
+ReadsChecked = (m : Machine) (words : List ℕ) (p : Pointer) → readWord m words p ≡ (check m access.Read p >>= (λ i. ok (getD words i 0)))
+
+-- what a completed instruction notes: its indirect word, whatever the opcode, then its operand, a read of LOAD, ADD and SUB, a store of STORE and SPP, of the rest none
+abbrev pub InstructionNotes : Type 0
+InstructionNotes =
+    (pointers : List Pointer) (i : Instruction) (p : Pointer)
+    → (madeAt pointers i p ≡ madeRead (indirectPlace pointers i) ∷ operandMade (i .opcode) p)
+    × (map (λ opcode. operandMade opcode p) (LOAD ∷ ADD ∷ SUB ∷ []) ≡ replicate 3 (madeRead p ∷ []))
+    × (map (λ opcode. operandMade opcode p) (STORE ∷ SPP ∷ []) ≡ replicate 2 (madeWrite p ∷ []))
+    × (map (λ opcode. operandMade opcode p) (EPP ∷ JUMP ∷ CALL ∷ RET ∷ JZ ∷ JM ∷ []) ≡ replicate 6 [])
 
 -- a registered match has the source of the live frame's first match
 abbrev pub MatchSource : Type 0
