@@ -8,3 +8,4 @@ pub mod Offset
 pub mod InstructionWord
 pub mod ModeWord
 pub mod Statements
+pub mod Private

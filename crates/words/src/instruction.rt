@@ -3,6 +3,7 @@ ghost use mathlib.Core.Path.{_≡_};
 ghost use Prim.Native.Nat.{_<_};
 ghost use Rattle.words.specs.Offset.{signedOf};
 ghost use Rattle.words.specs.InstructionWord.{instructionOf, instructionAnswer};
+ghost use Rattle.words.specs.Private.{HasMask};
 use crate::bits::bits;
 
 // An instruction taken apart. 8 bytes.
@@ -20,23 +21,6 @@ pub enum InstructionAnswer {
     Refused(u8),
 }
 
-// For each opcode, the bits that must be 0.
-const MASKS: [u32; 13] = [
-    0x00FFFFFF,
-    0x00FF0000,
-    0x00FF0000,
-    0x00FF0000,
-    0x00FF0000,
-    0x00F80000,
-    0x00F80000,
-    0x00FF0000,
-    0x00FF0000,
-    0x00FF0000,
-    0x00FF0000,
-    0x00FF0000,
-    0x00FFF000,
-];
-
 // Twelve bits in two's complement.
 fn signed(offset: u32) -> i32
     requires { ⌜ offset < 4096 ⌝ }
@@ -45,22 +29,37 @@ fn signed(offset: u32) -> i32
     ((offset + 2048) % 4096) as i32 - 2048
 }
 
+// The instruction that a word holds, given its opcode's mask: the bits that must be 0.
+fn decode_under(word: u32, mask: u32) -> InstructionAnswer
+    requires { ⌜ HasMask word mask ⌝ }
+    ensures { λ r. ⌜ instructionAnswer r ≡ instructionOf word ⌝ }
+{
+    if word & mask != 0 {
+        return InstructionAnswer::Refused(27);
+    }
+    InstructionAnswer::Instruction(Instruction {
+        offset: signed(bits(word, 0, 12)),
+        opcode: bits(word, 24, 8) as u8,
+        register: bits(word, 16, 3) as u8,
+        base: bits(word, 12, 3) as u8,
+        indirect: bits(word, 15, 1) == 1,
+    })
+}
+
 // The instruction that a word holds.
 pub fn decode(word: u32) -> InstructionAnswer
     ensures { λ r. ⌜ instructionAnswer r ≡ instructionOf word ⌝ }
 {
     let opcode = bits(word, 24, 8);
-    if 12 < opcode {
-        return InstructionAnswer::Refused(27);
+    match opcode {
+        // HALT
+        0 => decode_under(word, 0x00FFFFFF),
+        // LOAD, STORE, ADD, SUB; JUMP, CALL, RET, JZ, JM
+        1..=4 | 7..=11 => decode_under(word, 0x00FF0000),
+        // EPP, SPP
+        5 | 6 => decode_under(word, 0x00F80000),
+        // LIT
+        12 => decode_under(word, 0x00FFF000),
+        _ => InstructionAnswer::Refused(27),
     }
-    if word & MASKS[opcode as usize] != 0 {
-        return InstructionAnswer::Refused(27);
-    }
-    InstructionAnswer::Instruction(Instruction {
-        offset: signed(bits(word, 0, 12)),
-        opcode: opcode as u8,
-        register: bits(word, 16, 3) as u8,
-        base: bits(word, 12, 3) as u8,
-        indirect: bits(word, 15, 1) == 1,
-    })
 }
