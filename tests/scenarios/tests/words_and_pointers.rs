@@ -40,17 +40,26 @@ fn every_bit_under_a_mask_is_refused() {
     }
 }
 
+/// Executes a word, which must give 27 and leave all as it was, or must not
+/// give 27.
+fn executes(word: u32, refused: bool) {
+    let mut bench = world(&[]);
+    bench.set(0, 0, word);
+    match refused {
+        true => bench.faults(27),
+        false => assert_ne!(bench.step(), 27, "{word:#010X}"),
+    }
+}
+
 #[test]
-fn bad_instruction_words_at_execution() {
-    for word in [
-        0x0000_0001u32,
-        0x0C00_1000,
-        0x0500_0000 | 1 << 19,
-        0x0D00_0000,
-    ] {
-        let mut bench = world(&[]);
-        bench.set(0, 0, word);
-        bench.faults(27);
+fn every_bit_under_a_mask_is_refused_at_execution() {
+    for opcode in 0..256u32 {
+        let mask = MASKS.get(opcode as usize);
+        executes(opcode << 24, mask.is_none());
+        for bit in 0..24 {
+            let refused = mask.is_none_or(|mask| mask >> bit & 1 == 1);
+            executes(opcode << 24 | 1 << bit, refused);
+        }
     }
 }
 
