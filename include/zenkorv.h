@@ -10,9 +10,9 @@ extern "C" {
 #endif
 
 #define ZENKORV_VERSION_MAJOR 1
-#define ZENKORV_VERSION_MINOR 5
+#define ZENKORV_VERSION_MINOR 4
 #define ZENKORV_VERSION_PATCH 0
-#define ZENKORV_VERSION "1.5.0"
+#define ZENKORV_VERSION "1.4.0"
 
 /* A machine is a record of so many bytes and a memory of so many words. The firmware keeps them and lends them to calls. */
 #define ZENKORV_RECORD_BYTES 1079
@@ -21,7 +21,7 @@ extern "C" {
 /* The longest image that can be accepted, and the longest that is written, in bytes. */
 #define ZENKORV_LONGEST_IMAGE 33080
 
-/* The numbers of refusals, 1 to 10, and of faults, 21 to 33. */
+/* The numbers of refusals, 1 to 10, and of faults, 21 to 32. */
 enum zenkorv_number {
     ZENKORV_OK = 0,
     ZENKORV_CUT_SHORT = 1,        /* chunk header or body cut short */
@@ -45,8 +45,7 @@ enum zenkorv_number {
     ZENKORV_NOT_GATE = 29,        /* word not a gate */
     ZENKORV_BAD_ARGUMENT = 30,    /* n above 8, tagged return location, bad mode word */
     ZENKORV_NO_FREE_FRAME = 31,   /* eight frames in use */
-    ZENKORV_BAD_RETURN = 32,      /* tagged RET with no frame or another place or s */
-    ZENKORV_BAD_COUNT = 33        /* MOVE with a count outside 1-64 */
+    ZENKORV_BAD_RETURN = 32       /* tagged RET with no frame or another place or s */
 };
 
 /* How a run or a stretch ended. */
@@ -80,22 +79,21 @@ enum zenkorv_ending {
 /* The bytes of stack that each call needs on x86-64, its return address included: the bound of tools/stack, rounded up
    with 128 to 255 bytes to spare. Another processor, or another compiler, needs its own figures. */
 #define ZENKORV_STACK_READ 4608
-#define ZENKORV_STACK_RUN 6784
-#define ZENKORV_STACK_STRETCH 6784
-#define ZENKORV_STACK_LOG 7936
-#define ZENKORV_STACK_STEP 6784
+#define ZENKORV_STACK_RUN 6528
+#define ZENKORV_STACK_STRETCH 6528
+#define ZENKORV_STACK_LOG 7680
+#define ZENKORV_STACK_STEP 6528
 #define ZENKORV_STACK_WRITE 4480
 #define ZENKORV_STACK_SEGMENT 4352
 #define ZENKORV_STACK_CHECK 5248
 #define ZENKORV_STACK_RESTART 5376
-#define ZENKORV_STACK_ENTRY 39552
+#define ZENKORV_STACK_ENTRY 39296
 
 /*
  * The record's bytes. Numbers are little-endian, flags are 0 or 1, rows that are not in use are zeros. The firmware may
  * keep and copy the bytes, and read them; a record that was changed is refused with 9 unless it is sound. A record with a
  * dead gate (see 10) is not sound, even if a version before 1.2 accepted it. A record of a version before 1.4 is the first
- * 919 bytes of one; put after it, for k from 0 to 15, nine zeros and k: registers that are empty. Version 1.5 has the
- * bytes of 1.4.
+ * 919 bytes of one; put after it, for k from 0 to 15, nine zeros and k: registers that are empty.
  *
  * The sixteen registers keep recent capabilities of the frames in use. In a sound record they change no answer: their
  * recency numbers are 0 to 15, each once, and a filled one holds a capability that its frame has, and that shares no word
@@ -151,8 +149,7 @@ uint8_t zenkorv_read(const uint8_t *image, size_t image_length, uint8_t *record,
 
 /*
  * Runs at most limit instructions from where the record stands. Called again, it goes on from there; a halted machine
- * executes its HALT again, one that faulted the instruction that faults. Since version 1.5 opcode 13 is MOVE, which copies
- * up to 64 words; before, it gave 27.
+ * executes its HALT again, one that faulted the instruction that faults.
  *
  * The answer is taken apart by the macros: the ending; the number of a fault or a refusal, else 0; the count of the
  * instructions completed. A run that faults leaves record and words as before the instruction. Refusals: 8, then 9,
@@ -288,7 +285,6 @@ static inline const char *zenkorv_name(uint8_t number)
     case ZENKORV_BAD_ARGUMENT: return "bad argument list";
     case ZENKORV_NO_FREE_FRAME: return "no free frame";
     case ZENKORV_BAD_RETURN: return "bad return";
-    case ZENKORV_BAD_COUNT: return "bad count";
     default: return "?";
     }
 }

@@ -313,8 +313,8 @@ static void check_entry(const char *name, const struct image *image)
 
 static void check_names(void)
 {
-    static const uint8_t unnamed[] = {11, 20, 34, 255};
-    for (int number = 0; number <= 33; number++)
+    static const uint8_t unnamed[] = {11, 20, 33, 255};
+    for (int number = 0; number <= 32; number++)
         expect((strcmp(zenkorv_name((uint8_t)number), "?") != 0) == (number <= 10 || number >= 21), "name", "of a number");
     for (size_t i = 0; i < sizeof unnamed; i++)
         expect(strcmp(zenkorv_name(unnamed[i]), "?") == 0, "name", "of no number");

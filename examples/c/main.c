@@ -121,8 +121,7 @@ static void check_runs(void)
     check_gate("a gate with E alone", 4, ended(ZENKORV_HALTED, 0, 1));
     check_word("LOAD without R", 0x01003000, 4, 1000, ended(ZENKORV_FAULTED, ZENKORV_FLAG_MISSING, 0));
     check_word("LIT, then no word", 0x0C000FFF, 4, 1000, ended(ZENKORV_FAULTED, ZENKORV_NO_WORD, 1));
-    check_word("MOVE with A 0", 0x0D000000, 4, 1000, ended(ZENKORV_FAULTED, ZENKORV_BAD_COUNT, 0));
-    check_word("opcode 14", 0x0E000000, 4, 1000, ended(ZENKORV_FAULTED, ZENKORV_BAD_INSTRUCTION, 0));
+    check_word("opcode 13", 0x0D000000, 4, 1000, ended(ZENKORV_FAULTED, ZENKORV_BAD_INSTRUCTION, 0));
     check_word("word number -1", 0x01003FFF, 5, 1000, ended(ZENKORV_FAULTED, ZENKORV_OUT_OF_RANGE, 0));
 }
 

@@ -182,15 +182,12 @@ uint16_t step(void)
     must(number == 0 ? code <= 256 : code == number && NO_WORD <= number && number <= LAST_FAULT, "step", "its number must be known");
     if (code != 0)
         all_stay("step");
-    if (code != 0 || !judge_move())
-        must(same(&words) || words_changed() == 1, "step", "at most one word may change, but for a MOVE");
+    must(same(&words) || words_changed() == 1, "step", "at most one word may change");
     judge_frame();
     if (code == 0)
         judge_registers();
     if (code == NO_MATCH)
         count_uncovered_list();
-    if (code == BAD_COUNT)
-        judge_count();
     if (number != 0 && number != BAD_INSTRUCTION)
         count_fault_between();
     completed("step");

@@ -11,8 +11,7 @@ static const char *const call_names[CALLS] = { "read", "run", "stretch", "log", 
 static const char *const ending_names[] = { "halted", "faulted", "spent", "crossed" };
 static const char *const use_names[USES] = {
     "references matched by a register", "references with a match in another frame's register alone", "found capabilities entered", "found capabilities that may not be entered", "registers of an older frame replaced",
-    "lists entered", "lists that may not be entered", "returns that empty registers", "faults after an indirect word through a tagged pointer",
-    "moves judged"
+    "lists entered", "lists that may not be entered", "returns that empty registers", "faults after an indirect word through a tagged pointer"
 };
 
 static enum mode current;

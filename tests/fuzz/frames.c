@@ -1,4 +1,4 @@
-/* What must hold of the frame that a CALL through a gate makes, of a MOVE, and of the registers after a step, worked out from the records before and after it. */
+/* What must hold of the frame that a CALL through a gate makes, and of the registers after a step, worked out from the records before and after it. */
 #include <string.h>
 
 #include "capabilities.h"
@@ -99,22 +99,10 @@ static unsigned lowest_match(const uint8_t *due, const uint8_t *made, bool live)
     return k;
 }
 
-/* A reference to a run of words, as a capability for them. */
-struct made {
-    uint8_t run[CAPABILITY];
-};
-
-static struct made made_run(const uint8_t *pointer, unsigned count, bool write)
-{
-    const struct made made = { { pointer[0], pointer[1], (uint8_t)count, 0, pointer[2], 0, !write, write } };
-    return made;
-}
-
 /* A reference that passed: through a tagged pointer, the lowest register of the live frame that matches rises, or what the search finds is entered. */
-static void refer(uint8_t *due, const uint8_t *pointer, unsigned count, bool write)
+static void refer(uint8_t *due, const uint8_t *pointer, bool write)
 {
-    const struct made reference = made_run(pointer, count, write);
-    const uint8_t *made = reference.run;
+    const uint8_t made[CAPABILITY] = { pointer[0], pointer[1], 1, 0, pointer[2], 0, !write, write };
     const uint8_t *found = first_covering(due, made);
     if (pointer[3] == 0 || found == NULL)
         return;
@@ -148,7 +136,7 @@ static void follow(uint8_t *pointer)
     pointer[3] |= (uint8_t)(word >> 31);
 }
 
-/* The references of an instruction, save those to a list: the indirect word, then the operand, or both sides of a MOVE. */
+/* The references of an instruction, save those to a list: the indirect word, then the operand. */
 static void refer_by_instruction(uint8_t *due)
 {
     uint8_t pointer[4];
@@ -158,61 +146,13 @@ static void refer_by_instruction(uint8_t *due)
         return;
     form(pointer, due, instruction);
     if ((instruction & INDIRECT) != 0) {
-        refer(due, pointer, 1, false);
+        refer(due, pointer, false);
         follow(pointer);
     }
-    unsigned count = opcode == MOVE ? due[REGISTERS] : 1;
-    if (opcode == LOAD || opcode == ADD || opcode == SUB || opcode == MOVE)
-        refer(due, pointer, count, false);
-    if (opcode == MOVE)
-        memcpy(pointer, due + POINTERS + 4 * (instruction >> 16 & 7), 4);
-    if (opcode == STORE || opcode == SPP || opcode == MOVE)
-        refer(due, pointer, count, true);
-}
-
-/* Of a MOVE that was completed: all words of a side exist, and by the executing domain's rights, or by those of the source of the first capability that covers them, may be read or written. */
-static void judge_side(const uint8_t *bytes, const uint8_t *pointer, unsigned count, bool write)
-{
-    const struct made made = made_run(pointer, count, write);
-    const uint8_t *found = pointer[3] == 0 ? NULL : first_covering(bytes, made.run);
-    must(pointer[2] < bytes[SEGMENTS] && get16(pointer) + count <= get16(bytes + LENGTHS + 2 * pointer[2]), "step", "all words of a MOVE must exist");
-    must(pointer[3] == 0 || found != NULL, "step", "one capability must cover all of a tagged side of a MOVE");
-    unsigned domain = found == NULL ? bytes[EXECUTING] : found[SOURCE];
-    must((bytes[RIGHTS + 16 * domain + pointer[2]] & (write ? W : R)) != 0, "step", "a MOVE must have its rights");
-}
-
-/* The words after a MOVE: as if all were read first. */
-static void judge_moved(const uint8_t *bytes, const uint8_t *from, const uint8_t *to, unsigned count)
-{
-    static uint8_t due[4 * WORDS];
-    size_t length = 4 * words_in_use(bytes);
-    memcpy(due, words.kept + (words.at - words.room), length);
-    memmove(due + 4 * (base_of(bytes, to[2]) + get16(to)), due + 4 * (base_of(bytes, from[2]) + get16(from)), 4 * count);
-    must(memcmp(words.at, due, length) == 0, "step", "a MOVE must copy as many words as A says, and change no other");
-}
-
-/* After a step that was completed: tells whether it was a MOVE, and judges it. But for the words, only the location and the registers change. */
-bool judge_move(void)
-{
-    uint8_t from[4], due[RECORD];
-    const uint8_t *before = record_before();
-    uint32_t instruction = word_at(before + LOCATION);
-    const uint8_t *to = before + POINTERS + 4 * (instruction >> 16 & 7);
-    unsigned count = get16(before + REGISTERS);
-    if (instruction >> 24 != MOVE)
-        return false;
-    must(get16(before + REGISTERS + 2) == 0 && 1 <= count && count <= LONGEST_MOVE, "step", "a MOVE must have a count from 1 to 64");
-    form(from, before, instruction);
-    if ((instruction & INDIRECT) != 0)
-        follow(from);
-    judge_side(before, from, count, false);
-    judge_side(before, to, count, true);
-    judge_moved(before, from, to, count);
-    memcpy(due, before, RECORD);
-    put16(due + LOCATION, get16(before + LOCATION) + 1);
-    must(memcmp(record.at, due, RECENT) == 0, "step", "a MOVE must leave the record, but for the location and the registers");
-    count_use(MOVED, count - 1 < 15 ? count - 1 : 15);
-    return true;
+    if (opcode == LOAD || opcode == ADD || opcode == SUB)
+        refer(due, pointer, false);
+    if (opcode == STORE || opcode == SPP)
+        refer(due, pointer, true);
 }
 
 /* The caller reads all words of the list at a but word 2; then the list's capability is entered, if it may be. */
@@ -225,7 +165,7 @@ static void call_by_list(uint8_t *due)
     for (unsigned k = 0; k < 3 + 2 * list; k++) {
         put16(pointer, get16(due + POINTERS) + k);
         if (k != 2)
-            refer(due, pointer, 1, false);
+            refer(due, pointer, false);
     }
     bool enters = may_be_entered(frame, list);
     count_use(enters ? LIST_ENTERED : LIST_NOT_ENTERED, list);
@@ -261,14 +201,6 @@ void judge_registers(void)
     must(memcmp(record.at + RECENT, due + RECENT, RECENT_BYTES) == 0, "step", what);
 }
 
-/* After a step that gave 33: it was a MOVE, and A is no count. */
-void judge_count(void)
-{
-    unsigned count = get16(record.at + REGISTERS);
-    bool good = get16(record.at + REGISTERS + 2) == 0 && 1 <= count && count <= LONGEST_MOVE;
-    must(word_at(record.at + LOCATION) >> 24 == MOVE && !good, "step", "33 must mean a MOVE with a count outside 1 to 64");
-}
-
 /* The executing domain may execute the word at the location. */
 static bool fetched(const uint8_t *bytes)
 {
@@ -285,8 +217,7 @@ void count_fault_between(void)
     unsigned offset = instruction & 0xFFF;
     form(pointer, record.at, instruction);
     bool in_range = offset < 0x800 ? get16(pointer) >= offset : get16(pointer) < offset;
-    unsigned opcode = instruction >> 24;
-    if ((opcode < LIT || opcode == MOVE) && fetched(record.at) && (instruction & INDIRECT) != 0 && in_range && pointer[3] == 1 &&
+    if (instruction >> 24 < LIT && fetched(record.at) && (instruction & INDIRECT) != 0 && in_range && pointer[3] == 1 &&
         live_code(0, pointer[2], (uint16_t)get16(pointer)) < 0x10000)
         count_use(FAULT_BETWEEN, record.at[DEPTH]);
 }

@@ -21,13 +21,13 @@ enum {
 enum { LOG_BYTES = ZENKORV_LOG_BYTES, LOG_LIMIT = ZENKORV_LOG_LIMIT, CROSSING = 6, KIND = 0, LEFT = 1, ENTERED = 2, PLACE = 3 };
 
 enum { CUT_SHORT = 1, WRONG_KIND = 2, WRONG_LENGTH = 3, BYTES_LEFT = 6, MEMORY_TOO_SHORT = 7, TOO_SHORT = 8, NOT_SOUND = 9, DEAD_GATE = 10 };
-enum { NO_WORD = 21, FLAG_MISSING = 22, NO_MATCH = 24, SOURCE_FAILS = 25, BAD_INSTRUCTION = 27, BAD_COUNT = 33, LAST_FAULT = BAD_COUNT };
-enum { R = 1, W = 2, E = 4, G = 8, ALL_BUT_E = 11 };
-enum { LOAD = 1, STORE = 2, ADD = 3, SUB = 4, SPP = 6, CALL = 8, LIT = 12, MOVE = 13, LONGEST_MOVE = 64, INDIRECT = 0x8000 };
+enum { NO_WORD = 21, FLAG_MISSING = 22, NO_MATCH = 24, SOURCE_FAILS = 25, BAD_INSTRUCTION = 27, LAST_FAULT = 32 };
+enum { R = 1, E = 4, G = 8, ALL_BUT_E = 11 };
+enum { LOAD = 1, STORE = 2, ADD = 3, SUB = 4, SPP = 6, CALL = 8, LIT = 12, INDIRECT = 0x8000 };
 enum ending { HALTED, FAULTED, SPENT, CROSSED, REFUSED };
 enum mode { IMAGE, RECORD_BYTES, EDITED_IMAGE, EDITED_RECORD, MODES };
 enum call { READ, RUN, STRETCH, LOG, STEP, WRITE, SEGMENT, CHECK, RESTART, ENTRY, CALLS };
-enum use { MATCHED, PASSED_OVER, ENTERED_FOUND, NOT_ENTERED, OLDER_REPLACED, LIST_ENTERED, LIST_NOT_ENTERED, CLEARED, FAULT_BETWEEN, MOVED, USES };
+enum use { MATCHED, PASSED_OVER, ENTERED_FOUND, NOT_ENTERED, OLDER_REPLACED, LIST_ENTERED, LIST_NOT_ENTERED, CLEARED, FAULT_BETWEEN, USES };
 
 /* lent.c: what a call is lent lies against a page that it can't touch; the whole room is held against a copy. */
 struct lent {
@@ -102,10 +102,8 @@ void count_use(enum use use, unsigned which);
 /* crossings.c: what must hold of a log, which is the output */
 void judge_log(unsigned calls, unsigned returns, unsigned completed);
 
-/* frames.c: what must hold of the frame that a step makes by a call through a gate, of a MOVE, and of the registers after a step */
+/* frames.c: what must hold of the frame that a step makes by a call through a gate, and of the registers after a step */
 void judge_frame(void);
-bool judge_move(void);
-void judge_count(void);
 void judge_registers(void);
 void count_uncovered_list(void);
 void count_fault_between(void);

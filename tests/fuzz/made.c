@@ -12,7 +12,7 @@ static bool is_list(unsigned segment)
 
 static unsigned made_length(unsigned most)
 {
-    unsigned length = one_in(64) ? 4096 : one_in(8) ? 1 + below(4) : one_in(8) ? 66 + below(80) : 4 + below(40);
+    unsigned length = one_in(64) ? 4096 : one_in(8) ? 1 + below(4) : 4 + below(40);
     return length < most ? length : most;
 }
 
@@ -179,30 +179,13 @@ static void made_registers(uint8_t *bytes)
 }
 
 /* Any sound A, pointers, frames and registers on a layout; one record in four stays fresh, one in four has been handed a list. */
-/* Registers 4 and 5 point near each other, into the longest of some segments on which the executing domain has rights, mostly untagged; A is a count. */
-static void made_for_move(uint8_t *bytes)
-{
-    unsigned segment = below(bytes[SEGMENTS]);
-    for (unsigned k = 0; k < 4; k++) {
-        unsigned other = below(bytes[SEGMENTS]);
-        segment = get16(bytes + LENGTHS + 2 * other) > get16(bytes + LENGTHS + 2 * segment) ? other : segment;
-    }
-    put16(bytes + REGISTERS, one_in(2) ? LONGEST_MOVE : 1 + below(LONGEST_MOVE));
-    for (unsigned p = 4; p <= 5; p++) {
-        put16(bytes + POINTERS + 4 * p, p == 4 && one_in(2) ? 2 : below(2));
-        bytes[POINTERS + 4 * p + 2] = (uint8_t)segment;
-        bytes[POINTERS + 4 * p + 3] = one_in(4);
-    }
-    bytes[RIGHTS + 16 * bytes[EXECUTING] + segment] |= R | W;
-}
-
 void made_state(uint8_t *bytes)
 {
     unsigned segments = bytes[SEGMENTS];
     unsigned domains = bytes[DOMAINS];
     if (one_in(4))
         return;
-    put16(bytes + REGISTERS, one_in(2) ? below(LONGEST_MOVE + 3) : draw() >> 16);
+    put16(bytes + REGISTERS, draw() >> 16);
     put16(bytes + LOCATION, one_in(16) ? below(4097) : one_in(4) ? below(8) : 0);
     bytes[LOCATION + 2] = one_in(16) ? (uint8_t)below(16) : made_segment(segments, false);
     bytes[EXECUTING] = one_in(4) ? (uint8_t)below(domains) : bytes[GATE_DOMAINS + bytes[LOCATION + 2]];
@@ -217,8 +200,6 @@ void made_state(uint8_t *bytes)
         made_handed_list(bytes, segments);
     if (bytes[DEPTH] >= 2)
         made_older_argument(bytes, bytes + FRAMES + FRAME * (bytes[DEPTH] - 2u));
-    if (one_in(6))
-        made_for_move(bytes);
     made_registers(bytes);
 }
 
@@ -244,30 +225,14 @@ static uint32_t made_list_word(unsigned segment, unsigned k, unsigned segments)
     return k % 2 == 1 ? made_argument(segment, segments) : (1 + below(3)) << 30 | (1 + below(one_in(16) ? 5000 : 16));
 }
 
-/* From near b or any register to the same, up or down by a few words; else to another. */
-static uint32_t made_move(void)
-{
-    uint32_t from = one_in(2) ? 2 : below(8);
-    if (one_in(2))
-        return MOVE << 24 | from << 16 | from << 12 | (one_in(2) ? below(4) : 4095 - below(4));
-    uint32_t to = one_in(2) ? 2 : below(8);
-    return MOVE << 24 | to << 16 | (one_in(4) ? INDIRECT : 0) | from << 12 | below(8);
-}
-
-/* A number, often one that a MOVE may have. */
-static uint32_t made_number(void)
-{
-    return LIT << 24 | (one_in(4) ? below(4096) : one_in(2) ? 1 + below(4) : below(LONGEST_MOVE + 2));
-}
-
 static uint32_t made_instruction(void)
 {
-    uint32_t opcode = 1 + below(MOVE);
+    uint32_t opcode = 1 + below(12);
     uint32_t offset = one_in(16) ? below(4096) : below(8);
     uint32_t base = one_in(2) ? 2 : below(8);
-    uint32_t operand = opcode == 5 || opcode == SPP || opcode == MOVE ? below(8) << 16 : 0;
-    if (opcode == LIT)
-        return made_number();
+    uint32_t operand = opcode == 5 || opcode == 6 ? below(8) << 16 : 0;
+    if (opcode == 12)
+        return opcode << 24 | offset;
     return opcode << 24 | operand | (one_in(4) ? 0x8000 : 0) | base << 12 | offset;
 }
 
@@ -275,19 +240,15 @@ static uint32_t made_instruction(void)
 static uint32_t made_reference(void)
 {
     static const uint32_t opcodes[] = { LOAD, LOAD, STORE, ADD, SUB, SPP };
-    if (one_in(6))
-        return MOVE << 24 | below(8) << 16 | (one_in(3) ? INDIRECT : 0) | below(8);
     return opcodes[below(6)] << 24 | (one_in(3) ? INDIRECT : 0) | below(8);
 }
 
-/* After a := b often a CALL of the gate in b's list, after LIT a MOVE; else these, a RET to the caller, a JUMP to segment 0, HALT, a reference near a, any other. */
+/* After a := b often a CALL of the gate in b's list; else these, a RET to the caller, a JUMP to segment 0, HALT, a reference near a, any other. */
 static uint32_t made_code_word(uint32_t before, unsigned segments)
 {
     static const uint32_t often[] = { 0x05002000, 0x05002000, 0x05002000, 0x09008001, 0x07003000, 0x00000000 };
     if (before == often[0] && !one_in(8))
         return 0x0800A002;
-    if (before >> 24 == LIT && !one_in(4))
-        return made_move();
     if (one_in(2))
         return often[below(sizeof often / sizeof often[0])];
     if (one_in(16))
@@ -298,8 +259,6 @@ static uint32_t made_code_word(uint32_t before, unsigned segments)
 /* Code often begins with a call, or with the return of one. */
 static uint32_t made_first_word(unsigned segments)
 {
-    if (one_in(16))
-        return one_in(2) ? made_move() : made_number();
     return one_in(4) ? made_code_word(0, segments) : one_in(4) ? 0x09008001 : 0x05002000;
 }
 
@@ -319,30 +278,19 @@ static void made_gate_word(const uint8_t *bytes, uint32_t *memory)
         memory[base_of(bytes, stack) + 2] = gate << 12;
 }
 
-/* Some references, and a CALL of the gate in b's list. */
-static void made_next_calls(const uint8_t *bytes, uint32_t *memory, unsigned word, unsigned length)
+/* Where a is tagged, the next instruction is often a CALL of the gate in b's list, or some references come before it. */
+static void made_next_words(const uint8_t *bytes, uint32_t *memory)
 {
     unsigned segment = bytes[LOCATION + 2];
+    unsigned word = get16(bytes + LOCATION);
+    if (bytes[POINTERS + 3] == 0 || segment >= bytes[SEGMENTS] || one_in(8))
+        return;
+    unsigned length = get16(bytes + LENGTHS + 2 * segment);
     unsigned references = one_in(2) ? 1 + below(5) : 0;
     for (unsigned k = 0; k <= references && word + k < length; k++)
         memory[base_of(bytes, segment) + word + k] = k < references ? made_reference() : 0x0800A002;
     if (!one_in(8))
         made_gate_word(bytes, memory);
-}
-
-/* The next instruction is often a MOVE, where registers 4 and 5 name the same segment; where a is tagged, a CALL, or some references come before it. */
-static void made_next_words(const uint8_t *bytes, uint32_t *memory)
-{
-    unsigned segment = bytes[LOCATION + 2];
-    unsigned word = get16(bytes + LOCATION);
-    if (segment >= bytes[SEGMENTS] || one_in(8))
-        return;
-    unsigned length = get16(bytes + LENGTHS + 2 * segment);
-    bool near = bytes[POINTERS + 18] == bytes[POINTERS + 22] && get16(bytes + POINTERS + 20) < 2;
-    if (word < length && near && bytes[REGISTERS] != 0 && bytes[REGISTERS] <= LONGEST_MOVE && !one_in(4))
-        memory[base_of(bytes, segment) + word] = MOVE << 24 | 4 << 16 | 5 << 12;
-    else if (bytes[POINTERS + 3] != 0)
-        made_next_calls(bytes, memory, word, length);
 }
 
 void made_words(const uint8_t *bytes, uint32_t *memory)

@@ -164,14 +164,9 @@ static void unbend(const uint8_t *lent, size_t record_length)
 
 /* 45: in place of an entry a register of another frame rises; 46: one matches where the live frame has no match; 47: a return does not clear;
    48: it clears, but keeps all numbers; 49: it turns the cleared ones round; 50: a fault renews the registers; 51: a list that may not be entered is;
-   52: no list is; 53: a match does not rise; 54: an entry goes to the lowest empty register; 55: arguments that are passed on renew.
-   60: a MOVE leaves its last word; 61: words go one by one, upwards; 62: 64 words are too many; 63: a MOVE does not renew the registers. */
+   52: no list is; 53: a match does not rise; 54: an entry goes to the lowest empty register; 55: arguments that are passed on renew. */
 static enum slip slip_of_registers(void)
 {
-    if (wrong(60) || wrong(61))
-        return wrong(60) ? LAST_STAYS : ONE_BY_ONE;
-    if (wrong(62) || wrong(63))
-        return wrong(62) ? TOO_MANY : NOT_RENEWED;
     if (wrong(45) || wrong(46))
         return wrong(45) ? OTHER_RISES : OTHER_MATCHES;
     if (wrong(47) || wrong(48) || wrong(49))

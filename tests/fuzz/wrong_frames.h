@@ -16,13 +16,11 @@ enum { RECORD_LENGTH = ZENKORV_RECORD_BYTES };
    too, is a word short, or need not be covered; arguments are lent to be written too; s loses its tag.
    Wrong registers: in place of an entry another frame's register rises, or one matches where the live frame has no match; a return
    does not clear, clears but keeps all numbers, or turns the cleared ones round; a fault renews; a list is entered that may not be,
-   or never; a match does not rise; an entry goes to the lowest empty register; arguments that are passed on renew.
-   Wrong moves: the last word stays; words go one by one, upwards; 64 words are too many; the registers are not renewed. */
+   or never; a match does not rise; an entry goes to the lowest empty register; arguments that are passed on renew. */
 enum slip {
     NO_SLIP, CALLER_AS_SOURCE, LAST_AS_SOURCE, LIST_WITH_W, WORD_SHORT, NOT_COVERED, ARGUMENTS_WITH_W, S_UNTAGGED,
     OTHER_RISES, OTHER_MATCHES, NOT_CLEARED, NUMBERS_KEPT, TURNED_ROUND, RENEWED_AT_FAULT, ENTERED_ANYWAY, LIST_LEFT_OUT, MATCH_STAYS, LOWEST_EMPTY,
-    RENEWED_BY_ARGUMENTS,
-    LAST_STAYS, ONE_BY_ONE, TOO_MANY, NOT_RENEWED
+    RENEWED_BY_ARGUMENTS
 };
 
 struct machine {
@@ -150,59 +148,16 @@ static inline uint16_t step_with_others(const struct machine *m)
     return 0;
 }
 
-/* The index of a word in the memory. */
-static inline size_t index_of(const uint8_t *record, unsigned segment, unsigned word)
-{
-    size_t index = word;
-    for (unsigned s = 0; s < segment; s++)
-        index += record[2 * s] + 256u * record[2 * s + 1];
-    return index;
-}
-
-/* A step of a sound record, which goes wrong where it is a MOVE that is completed. */
-static inline uint16_t wrong_move(const struct machine *m)
-{
-    static uint32_t kept[8192];
-    uint8_t before[RECORD_LENGTH];
-    size_t at = index_of(m->record, m->record[228], first_word(m->record + 226));
-    uint32_t instruction = m->record[228] < 16 && at < 8192 ? m->words[at] : 0;
-    memcpy(before, m->record, RECORD_LENGTH);
-    memcpy(kept, m->words, instruction >> 24 == 13 ? sizeof kept : 0);
-    uint16_t code = __real_zenkorv_step(m->record, m->record_length, m->words, m->word_count);
-    if (code != 0 || instruction >> 24 != 13)
-        return code;
-    const uint8_t *to = before + 230 + 4 * (instruction >> 16 & 7);
-    const uint8_t *from = before + 230 + 4 * (instruction >> 12 & 7);
-    size_t first = index_of(before, to[2], first_word(to));
-    size_t source = index_of(before, from[2], (first_word(from) + instruction) & 0xFFF);
-    bool one_by_one = m->slip == ONE_BY_ONE && (instruction & 0x8000) == 0;
-    if (m->slip == NOT_RENEWED)
-        take_registers(m->record, before);
-    if (m->slip == LAST_STAYS)
-        m->words[first + before[222] - 1] = kept[first + before[222] - 1];
-    if (one_by_one)
-        memcpy(m->words, kept, sizeof kept);
-    for (unsigned k = 0; one_by_one && k < before[222]; k++)
-        m->words[first + k] = m->words[source + k];
-    if (m->slip != TOO_MANY || before[222] != 64)
-        return 0;
-    memcpy(m->record, before, RECORD_LENGTH);
-    memcpy(m->words, kept, sizeof kept);
-    return 33;
-}
-
 static inline uint16_t wrong_step(const struct machine *m)
 {
     uint8_t before[RECORD_LENGTH];
-    if (m->slip >= LAST_STAYS && __real_zenkorv_run(m->record, m->record_length, m->words, m->word_count, 0) >> 24 != 4)
-        return wrong_move(m);
     memcpy(before, m->record, m->record_length < RECORD_LENGTH ? m->record_length : RECORD_LENGTH);
     uint16_t code = __real_zenkorv_step(m->record, m->record_length, m->words, m->word_count);
     if (m->slip == NOT_COVERED && code == 24)
         return step_with_list(m);
     if (m->slip == OTHER_MATCHES && code == 24)
         return step_with_others(m);
-    if (m->slip == RENEWED_AT_FAULT && 21 <= code && code <= 33)
+    if (m->slip == RENEWED_AT_FAULT && 21 <= code && code <= 32)
         rise_at_fault(m->record);
     if (code == 0 && m->record[262] > before[262])
         spoil_call(m->slip, before, m->record);

@@ -1,5 +1,5 @@
 -- What the checks and the words taken apart refuse with is the number of a fault.
-use Prim.Native.Nat.{ℕ, ◌+◌, ◌-◌}
+use Prim.Native.Nat.{ℕ, ◌+◌}
 use native.Mathlib.Omega.{arith}
 use mathlib.Core.Bool.{Bool, true, false, not}
 use mathlib.Core.List.{List, [], ◌∷◌}
@@ -25,14 +25,13 @@ use Rattle.references.specs.declared.flag.Flag.TheVariants as flag
 use Rattle.references.specs.declared.flag.Access.{Access}
 use Rattle.references.specs.declared.flag.Access.TheVariants as access
 use Rattle.references.specs.Flag.{has, flag_of, is_read}
-use Rattle.references.specs.Static.{exists, rights_of, static_of, last_of}
+use Rattle.references.specs.Static.{exists, rights_of, static_of}
 use Rattle.capabilities.specs.Search.{first_of, covers_of}
-use Rattle.references.specs.Live.{live_match, sourced, live_run_through}
-use Rattle.references.specs.Reference.{accept, index_of, is_run, verdict_run, locate_of, reference_run}
-use Rattle.references.specs.Check.{check_run}
+use Rattle.references.specs.Live.{live_match, sourced, live_through}
+use Rattle.references.specs.Reference.{accept, index_of, verdict_of, locate_of, reference_of}
+use Rattle.references.specs.Check.{check}
 use Rattle.references.proofs.Passes.{found-refuses}
-use Rattle.memory.specs.Reader.{read_of, read_run_of, fetch_of, read_word, read_run, fetch}
-use Rattle.blocks.specs.Block.{block_check}
+use Rattle.memory.specs.Reader.{read_of, fetch_of, read_word, fetch}
 use Rattle.addressing.specs.Effective.{displaced_by}
 use Rattle.executions.proofs.Parts.{live}
 use Rattle.executions.proofs.Fails.{Fails, Judged, passes, judged-if, fails-require, fails-if, fails-accept, fails-bind, fails-past}
@@ -52,37 +51,33 @@ pub match-fails : (depth : ℕ) (f : Frame) (fits : Capability → Bool) → Fai
 unfolding live_match
 match-fails depth f fits = fails-if (eqb depth 0) (refuse 24) _ (omega arith, omega arith) (first-fails fits (take f.count f.capabilities))
 
-live-judged : (lengths rights : List ℕ) (rs : List Register) (depth : ℕ) (f : Frame) (a : Access) (s w n : ℕ) → Judged (live_run_through lengths rights rs depth f a s w n)
-unfolding live_run_through
-live-judged lengths rights rs depth f a s w n = by _ (found-refuses rs depth f (covers_of s w n (is_read a) (not (is_read a))))
+live-judged : (lengths rights : List ℕ) (rs : List Register) (depth : ℕ) (f : Frame) (a : Access) (s w : ℕ) → Judged (live_through lengths rights rs depth f a s w)
+unfolding live_through
+live-judged lengths rights rs depth f a s w = by _ (found-refuses rs depth f (covers_of s w 1 (is_read a) (not (is_read a))))
   where
-    by : (x : Answer Capability) → ((n : ℕ) → x ≡ refuse n → n ≡ 24) → Judged (sourced lengths rights a s (last_of w n) x)
-    by (refuse k) h = λ _. (omega (arith, h k refl), omega (arith, h k refl))
-    by (ok c) h = judged-if (eqb (static_of lengths rights c.source (flag_of a) s (last_of w n)) 0) 0 25 passes (λ _. (omega arith, omega arith))
+    by : (x : Answer Capability) → ((n : ℕ) → x ≡ refuse n → n ≡ 24) → Judged (sourced lengths rights a s w x)
+    by (refuse n) h = λ _. (omega (arith, h n refl), omega (arith, h n refl))
+    by (ok c) h = judged-if (eqb (static_of lengths rights c.source (flag_of a) s w) 0) 0 25 passes (λ _. (omega arith, omega arith))
 
-module _ (lengths rights : List ℕ) (d : ℕ) (rs : List Register) (depth : ℕ) (f : Frame) (a : Access) (p : Pointer) (n : ℕ) where
-  verdict-judged : Judged (verdict_run lengths rights d rs depth f a p n)
-  unfolding verdict_run
+module _ (lengths rights : List ℕ) (d : ℕ) (rs : List Register) (depth : ℕ) (f : Frame) (a : Access) (p : Pointer) where
+  verdict-judged : Judged (verdict_of lengths rights d rs depth f a p)
+  unfolding verdict_of
   verdict-judged =
-      judged-if (is_run n) _ 33
-      (judged-if p.tag _ _ (live-judged lengths rights rs depth f a p.segment p.word n) (static-judged lengths rights d (flag_of a) p.segment (last_of p.word n)))
-      (λ _. (omega arith, omega arith))
+      judged-if p.tag _ _ (live-judged lengths rights rs depth f a p.segment p.word) (static-judged lengths rights d (flag_of a) p.segment p.word)
 
-  reference-fails : (bases : List ℕ) → Fails (reference_run lengths rights bases d rs depth f a p n)
-  unfolding reference_run
-  reference-fails bases = fails-accept (verdict_run lengths rights d rs depth f a p n) _ verdict-judged
+  reference-fails : (bases : List ℕ) → Fails (reference_of lengths rights bases d rs depth f a p)
+  unfolding reference_of
+  reference-fails bases = fails-accept (verdict_of lengths rights d rs depth f a p) _ verdict-judged
 
-pub check-fails : (m : Machine) (a : Access) (p : Pointer) (n : ℕ) → Fails (check_run m a p n)
-unfolding check_run
-check-fails m a p n = reference-fails m.layout.lengths m.layout.rights m.registers.domain m.recent (in_use m.depth) (live m) a p n (bases_of m.layout.lengths)
+pub check-fails : (m : Machine) (a : Access) (p : Pointer) → Fails (check m a p)
+unfolding check
+check-fails m a p = reference-fails m.layout.lengths m.layout.rights m.registers.domain m.recent (in_use m.depth) (live m) a p (bases_of m.layout.lengths)
 
 pub read-fails : (m : Machine) (words : List ℕ) (p : Pointer) → Fails (read_word m words p)
-unfolding read_word read_of check_run
-read-fails m words p = fails-bind (check_run m access.Read p 1) _ (check-fails m access.Read p 1) (λ i. tt)
-
-pub run-fails : (m : Machine) (words : List ℕ) (p : Pointer) (n : ℕ) → Fails (read_run m words p n)
-unfolding read_run read_run_of check_run
-run-fails m words p n = fails-bind (check_run m access.Read p n) _ (check-fails m access.Read p n) (λ i. tt)
+unfolding read_word read_of
+read-fails m words p =
+    fails-bind (reference_of m.layout.lengths m.layout.rights (bases_of m.layout.lengths) m.registers.domain m.recent (in_use m.depth) (live m) access.Read p) _
+    (reference-fails m.layout.lengths m.layout.rights m.registers.domain m.recent (in_use m.depth) (live m) access.Read p (bases_of m.layout.lengths)) (λ i. tt)
 
 pub fetch-fails : (m : Machine) (words : List ℕ) → Fails (fetch m words)
 unfolding fetch fetch_of locate_of
@@ -105,7 +100,7 @@ two-fail true true a = tt
 
 pub instruction-fails : (w : ℕ) → Fails (instruction_of w)
 unfolding instruction_of
-instruction-fails w = two-fail (leb (field 24 8 w) 13) (eqb (common 32 w (get_or masks (field 24 8 w) 0)) 0) _
+instruction-fails w = two-fail (leb (field 24 8 w) 12) (eqb (common 32 w (get_or masks (field 24 8 w) 0)) 0) _
 
 five-fail : {A : Type 0} (s t u v w : Bool) (a : A) → Fails (require s 30 >> require t 30 >> require u 30 >> require v 30 >> require w 30 >> ok a)
 five-fail false t u v w a = (omega arith, omega arith)
@@ -123,18 +118,6 @@ range-fails : (z : ℤ) → Fails (in_range z)
 range-fails (pos n) = fails-if (leb n 4095) (ok n) (refuse 23) tt (omega arith, omega arith)
 range-fails (negsuc n) = (omega arith, omega arith)
 
-displaced-fails : (w : ℕ) (z : ℤ) → Fails (displaced_of w z)
-unfolding displaced_of
-displaced-fails w z = range-fails (pos w +ℤ z)
-
 pub moved-fails : (p : Pointer) (z : ℤ) → Fails (displaced_by p z)
-unfolding displaced_by
-moved-fails p z = fails-bind (displaced_of p.word z) _ (displaced-fails p.word z) (λ n. tt)
-
--- what is judged of a block before its checks
-pub block-fails : (n : ℕ) (p q : Pointer) → Fails (block_check n p q)
-unfolding block_check
-block-fails n p q =
-    fails-past (require (is_run n) 33 >> displaced_of p.word (pos (n - 1))) (displaced_of q.word (pos (n - 1)))
-    (fails-past (require (is_run n) 33) (displaced_of p.word (pos (n - 1))) (fails-require (is_run n) 33 (omega arith, omega arith)) (displaced-fails p.word (pos (n - 1))))
-    (displaced-fails q.word (pos (n - 1)))
+unfolding displaced_by displaced_of
+moved-fails p z = fails-bind (in_range (pos p.word +ℤ z)) _ (range-fails (pos p.word +ℤ z)) (λ n. tt)

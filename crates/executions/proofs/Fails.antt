@@ -1,4 +1,4 @@
--- Answers whose refusals are numbers of faults, 21-33.
+-- Answers whose refusals are numbers of faults, 21-32.
 use Prim.Native.Nat.{ℕ}
 use native.Mathlib.Omega.{arith}
 use mathlib.Core.Bool.{Bool, true, false}

@@ -11,8 +11,8 @@ use Rattle.state.specs.declared.record.Machine.{Machine}
 use Rattle.recent.specs.SoundRegisters.{recent_test}
 use Rattle.soundness.specs.Sound.{sound_test}
 use Rattle.soundness.proofs.Facts.{sound-facts}
-use Rattle.memory.specs.Reader.{Reader, RunReader}
-use Rattle.instructions.specs.Plan.{Plan, halt, move, store, copy, enter, leave}
+use Rattle.memory.specs.Reader.{Reader}
+use Rattle.instructions.specs.Plan.{Plan, halt, move, store, enter, leave}
 use Rattle.crossings.specs.Crossing.{enter_of, leave_of}
 use Rattle.runs.specs.Step.{Act, stop, proceed, put, cross, resolve, recent_after, decide}
 use Rattle.executions.proofs.Parts.{planned}
@@ -37,17 +37,16 @@ GoesFit m (proceed a s w ps rs) = Fits m rs
 GoesFit m (put p v rs) = Fits m rs
 GoesFit m (cross n) = Unit {0}
 
-module _ (m : Machine) (read : Reader) (run : RunReader) (rs : List Register) (q : Pointer) (t : Fits m rs) where
-  resolve-fits : (plan : Plan) → Says (GoesFit m) (resolve m read run rs q plan)
+module _ (m : Machine) (read : Reader) (rs : List Register) (q : Pointer) (t : Fits m rs) where
+  resolve-fits : (plan : Plan) → Says (GoesFit m) (resolve m read rs q plan)
   resolve-fits halt = tt
   resolve-fits (move a s w ps) = t
   resolve-fits (store p v) = t
-  resolve-fits (copy p u n) = says_then (GoesFit m) (run p n) (λ vs. ok (put u vs rs)) (λ vs. t)
   resolve-fits (enter p) = says_then (GoesFit m) (enter_of m read p) (λ n. ok (cross n)) (λ n. tt)
   resolve-fits (leave p) = says_then (GoesFit m) (leave_of m q p) (λ n. ok (cross n)) (λ n. tt)
 
-pub decide-fits : (m : Machine) → Fit m → (fetched : Answer ℕ) (read : Reader) (run : RunReader) → Says (GoesFit m) (decide m fetched read run)
+pub decide-fits : (m : Machine) → Fit m → (fetched : Answer ℕ) (read : Reader) → Says (GoesFit m) (decide m fetched read)
 unfolding decide
-decide-fits m f fetched read run =
+decide-fits m f fetched read =
     let i = fetched >>= instruction_of in
-    says_then (GoesFit m) (planned m fetched read) _ (resolve-fits m read run (recent_after m read i) _ (after-recent m f.few f.recent read i))
+    says_then (GoesFit m) (planned m fetched read) _ (resolve-fits m read (recent_after m read i) _ (after-recent m f.few f.recent read i))

@@ -6,14 +6,14 @@ use mathlib.Core.List.{List}
 use mathlib.Core.Logic.{inl, inr}
 use mathlib.Core.Path.{◌≡◌, refl}
 use lib.Dec.{leb}
-use lib.ListN.{length, get_or}
+use lib.ListN.{get_or}
 use Rattle.words.specs.Answer.{ok, if◌then◌else◌}
 use Rattle.words.specs.declared.pointer.Pointer.{Pointer}
 use Rattle.state.specs.declared.record.Machine.{Machine}
 use Rattle.state.specs.Record.{no_pointer, in_use, of_segment}
 use Rattle.references.specs.declared.flag.Access.TheVariants as access
-use Rattle.references.specs.Check.{check_run}
-use Rattle.memory.specs.Reader.{read_word, read_run, fetch}
+use Rattle.references.specs.Check.{check}
+use Rattle.memory.specs.Reader.{read_word, fetch}
 use Rattle.instructions.specs.Plan.{enter, leave}
 use Rattle.crossings.specs.Crossing.{at_place, enter_of, leave_of, entered, left}
 use Rattle.runs.specs.Step.{Act, stop, proceed, put, cross, crossing, Done, decide, commit, execute}
@@ -39,15 +39,15 @@ module _ (m : Machine) (words : List ℕ) where
   unfolding commit
   commit-made stop h = refl
   commit-made (proceed a s w ps rs) h = (refl, refl)
-  commit-made (put p v rs) h = says_then MadeBy (check_run m access.Write p (length v)) _ (λ i. (refl, refl))
+  commit-made (put p v rs) h = says_then MadeBy (check m access.Write p) _ (λ i. (refl, refl))
   commit-made (cross n) h = h
 
 pub step-made : StepMade
 unfolding execute
 step-made m words d e =
     said (MadeBy m words) _ d
-    (says-bind (CrossesTo (Made m words crossing)) (MadeBy m words) (decide m (fetch m words) (read_word m words) (read_run m words)) (commit m words)
-    (decide-crosses m (Made m words crossing) (fetch m words) (read_word m words) (read_run m words) (enter-made m words) (leave-made m words)) (commit-made m words)) e
+    (says-bind (CrossesTo (Made m words crossing)) (MadeBy m words) (decide m (fetch m words) (read_word m words)) (commit m words)
+    (decide-crosses m (Made m words crossing) (fetch m words) (read_word m words) (enter-made m words) (leave-made m words)) (commit-made m words)) e
 
 -- a call through a gate keeps the layout, has one frame more in use, and executes the gate's domain at the gate
 pub record Calling (m : Machine) (gate : Pointer) (n : Machine) : Type 0 where

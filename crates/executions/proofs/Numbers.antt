@@ -1,4 +1,4 @@
--- The number of a fault is one of 21-33, so never 0.
+-- The number of a fault is one of 21-32, so never 0.
 use Prim.Native.Nat.{ℕ}
 use native.Mathlib.Omega.{arith}
 use mathlib.Core.Bool.{Bool, true, false, ◌&&◌}
@@ -6,7 +6,7 @@ use mathlib.Core.List.{List}
 use mathlib.Core.Path.{◌≡◌, refl}
 use borrow.Author.Tests.{eqb-false}
 use lib.Dec.{eqb, leb}
-use lib.ListN.{length, get_or}
+use lib.ListN.{get_or}
 use Rattle.words.specs.Answer.{refuse, ok, if◌then◌else◌}
 use Rattle.words.specs.declared.pointer.Pointer.{Pointer}
 use Rattle.state.specs.declared.record.Register.{Register}
@@ -14,9 +14,9 @@ use Rattle.state.specs.declared.record.Machine.{Machine}
 use Rattle.state.specs.Record.{no_pointer, in_use}
 use Rattle.references.specs.declared.flag.Flag.TheVariants as flag
 use Rattle.references.specs.declared.flag.Access.TheVariants as access
-use Rattle.references.specs.Check.{check_run}
-use Rattle.memory.specs.Reader.{Reader, RunReader, read_word, read_run, fetch}
-use Rattle.instructions.specs.Plan.{Plan, halt, move, store, copy, enter, leave}
+use Rattle.references.specs.Check.{check}
+use Rattle.memory.specs.Reader.{Reader, read_word, fetch}
+use Rattle.instructions.specs.Plan.{Plan, halt, move, store, enter, leave}
 use Rattle.crossings.specs.Crossing.{left, same_place, leave_check, enter_of, leave_of}
 use Rattle.runs.specs.Step.{Act, stop, proceed, put, cross, resolve, decide, commit, execute}
 use Rattle.runs.specs.Run.{run_from, judged}
@@ -24,7 +24,7 @@ use Rattle.processor.specs.Calls.{stepped, step_call}
 use Rattle.executions.proofs.Faults.{run-faulted}
 use Rattle.executions.proofs.Parts.{live, planned, frame_for, leave_number}
 use Rattle.executions.proofs.Fails.{Fails, judged-if, fails-accept, refused, fails-bind}
-use Rattle.executions.proofs.CheckNumbers.{static-judged, check-fails, read-fails, run-fails, fetch-fails}
+use Rattle.executions.proofs.CheckNumbers.{static-judged, check-fails, read-fails, fetch-fails}
 use Rattle.executions.proofs.PlanNumbers.{plan-fails, frame-fails}
 use Rattle.executions.specs.Statements.{FaultNumber, RunNumber, ZeroCompletes}
 
@@ -32,9 +32,6 @@ use Rattle.executions.specs.Statements.{FaultNumber, RunNumber, ZeroCompletes}
 module _ (m : Machine) (words : List ℕ) where
   abbrev reader : Reader
   reader = read_word m words
-
-  abbrev runs : RunReader
-  runs = read_run m words
 
   enter-fails : (p : Pointer) → Fails (enter_of m reader p)
   unfolding enter_of
@@ -49,15 +46,14 @@ module _ (m : Machine) (words : List ℕ) where
       (judged-if (leb 1 (in_use m.depth) && (same_place p (live m).back && same_place (get_or m.pointers 1 no_pointer) (live m).s)) _ 32
       (static-judged m.layout.lengths m.layout.rights (live m).domain flag.Execute p.segment p.word) (λ _. (omega arith, omega arith)))
 
-  resolve-fails : (rs : List Register) (q : Pointer) (plan : Plan) → Fails (resolve m reader runs rs q plan)
+  resolve-fails : (rs : List Register) (q : Pointer) (plan : Plan) → Fails (resolve m reader rs q plan)
   resolve-fails rs q halt = tt
   resolve-fails rs q (move a s w ps) = tt
   resolve-fails rs q (store p v) = tt
-  resolve-fails rs q (copy p t n) = fails-bind (runs p n) (λ vs. ok (put t vs rs)) (run-fails m words p n) (λ vs. tt)
   resolve-fails rs q (enter p) = fails-bind (enter_of m reader p) (λ n. ok (cross n)) (enter-fails p) (λ n. tt)
   resolve-fails rs q (leave p) = fails-bind (leave_of m q p) (λ n. ok (cross n)) (leave-fails q p) (λ n. tt)
 
-  decide-fails : Fails (decide m (fetch m words) reader runs)
+  decide-fails : Fails (decide m (fetch m words) reader)
   unfolding decide
   decide-fails =
       fails-bind (planned m (fetch m words) reader) _
@@ -68,12 +64,12 @@ module _ (m : Machine) (words : List ℕ) where
   unfolding commit
   commit-fails stop = tt
   commit-fails (proceed a s w ps rs) = tt
-  commit-fails (put p v rs) = fails-bind (check_run m access.Write p (length v)) _ (check-fails m access.Write p (length v)) (λ i. tt)
+  commit-fails (put p v rs) = fails-bind (check m access.Write p) _ (check-fails m access.Write p) (λ i. tt)
   commit-fails (cross n) = tt
 
 pub fault-number : FaultNumber
 unfolding execute
-fault-number m words n e = refused _ n (fails-bind (decide m (fetch m words) (read_word m words) (read_run m words)) (commit m words) (decide-fails m words) (commit-fails m words)) e
+fault-number m words n e = refused _ n (fails-bind (decide m (fetch m words) (read_word m words)) (commit m words) (decide-fails m words) (commit-fails m words)) e
 
 pub zero-completes : ZeroCompletes
 unfolding step_call

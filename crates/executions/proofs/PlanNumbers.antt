@@ -23,14 +23,13 @@ use Rattle.references.specs.Static.{exists, rights_of, static_of}
 use Rattle.capabilities.specs.Search.{covers_of}
 use Rattle.references.specs.Live.{live_match, passed_of}
 use Rattle.memory.specs.Reader.{Reader}
-use Rattle.blocks.specs.Block.{block_check}
 use Rattle.addressing.specs.Effective.{displaced_by, through_of, effective_of}
-use Rattle.instructions.specs.Plan.{copy, enter, leave}
-use Rattle.instructions.specs.Instruction.{jump_of, call_of, return_of, load_of, branch_of, move_of, is_load, is_store, taken_of, effect_of, execute_of, plan_of}
+use Rattle.instructions.specs.Plan.{enter, leave}
+use Rattle.instructions.specs.Instruction.{jump_of, call_of, return_of, load_of, branch_of, is_load, is_store, taken_of, effect_of, execute_of, plan_of}
 use Rattle.transfers.specs.Transfer.{call_way, jump_check}
 use Rattle.arguments.specs.ArgumentList.{list_word, list_pointer, source_of, capability_of, argument_of, arguments_from, list_mode, list_capability, frame_after, frame_of}
 use Rattle.executions.proofs.Fails.{Fails, judged-if, fails-require, fails-if, fails-accept, fails-bind, fails-past}
-use Rattle.executions.proofs.CheckNumbers.{static-judged, match-fails, pointer-fails, instruction-fails, mode-fails, moved-fails, block-fails}
+use Rattle.executions.proofs.CheckNumbers.{static-judged, match-fails, pointer-fails, instruction-fails, mode-fails, moved-fails}
 
 -- plans and frames, with a reader whose refusals are faults
 module _ (read : Reader) (reads : (p : Pointer) → Fails (read p)) where
@@ -82,20 +81,15 @@ module _ (read : Reader) (reads : (p : Pointer) → Fails (read p)) where
     unfolding branch_of
     branch-fails t p = fails-if t (jump_of lengths gates rights stacks depth r pointers p) _ (jump-fails p) tt
 
-    move-fails : (p q : Pointer) → Fails (move_of lengths gates rights stacks depth r pointers p q)
-    unfolding move_of
-    move-fails p q = fails-past (block_check r.a p q) (ok (copy p q r.a)) (block-fails r.a p q) tt
-
     effect-fails : (opcode register : ℕ) (p : Pointer) → Fails (effect_of lengths gates rights stacks depth r pointers read opcode register p)
     unfolding effect_of
     effect-fails opcode register p =
         fails-if (is_load opcode) _ _ (load-fails opcode p)
         (fails-if (is_store opcode) _ _ tt
-        (fails-if (eqb opcode 13) _ _ (move-fails p (get_or pointers register no_pointer))
         (fails-if (eqb opcode 5) _ _ tt
         (fails-if (eqb opcode 7) _ _ (jump-fails p)
         (fails-if (eqb opcode 8) _ _ (call-fails p)
-        (fails-if (eqb opcode 9) _ _ (return-fails p) (branch-fails (taken_of opcode r.a) p)))))))
+        (fails-if (eqb opcode 9) _ _ (return-fails p) (branch-fails (taken_of opcode r.a) p))))))
 
     execute-fails : (i : Instruction) → Fails (execute_of lengths gates rights stacks depth r pointers read i)
     unfolding execute_of

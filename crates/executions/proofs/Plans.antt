@@ -19,15 +19,14 @@ use Rattle.references.specs.Flag.{has}
 use Rattle.references.specs.Static.{exists, rights_of, static_of}
 use Rattle.references.proofs.Passes.{static-exists, exists-facts, never}
 use Rattle.memory.specs.Reader.{Reader}
-use Rattle.blocks.specs.Block.{block_check}
 use Rattle.addressing.specs.Effective.{effective_of}
-use Rattle.instructions.specs.Plan.{Plan, halt, move, store, copy, enter, leave}
-use Rattle.instructions.specs.Instruction.{jump_of, call_of, return_of, load_of, branch_of, move_of, is_load, is_store, taken_of, effect_of, execute_of, plan_of}
+use Rattle.instructions.specs.Plan.{Plan, halt, move, store, enter, leave}
+use Rattle.instructions.specs.Instruction.{jump_of, call_of, return_of, load_of, branch_of, is_load, is_store, taken_of, effect_of, execute_of, plan_of}
 use Rattle.transfers.specs.Transfer.{call_way, jump_check}
 use Rattle.pointer_registers.specs.Stack.{with_base, stack_of}
-use Rattle.executions.proofs.Says.{Says, says-bind, says_then, says-skip, says_if, says-accept}
+use Rattle.executions.proofs.Says.{Says, says-bind, says_then, says_if, says-accept}
 use Rattle.executions.proofs.Pointers.{BaseLt, base-lt, effective-sound}
-use Rattle.state.specs.Record.{no_pointer, of_segment}
+use Rattle.state.specs.Record.{of_segment}
 
 -- a segment, a word and pointers to go on with
 pub record Placed (s w : ℕ) (ps : List Pointer) : Type 0 where
@@ -92,7 +91,6 @@ module _ (lengths gates rights stacks : List ℕ) (depth : ℕ) (r : Registers) 
   PlanSound halt = Unit {0}
   PlanSound (move a s w ps) = Placed s w ps
   PlanSound (store p v) = Placed r.segment (r.word + 1) pointers
-  PlanSound (copy p q n) = Placed r.segment (r.word + 1) pointers
   PlanSound (enter p) = Gated lengths gates rights r.domain depth p
   PlanSound (leave p) = Unit {0}
 
@@ -135,20 +133,15 @@ module _ (lengths gates rights stacks : List ℕ) (depth : ℕ) (r : Registers) 
       unfolding branch_of
       branch-sound t p = says_if PlanSound t (jump_of lengths gates rights stacks depth r pointers p) _ (λ _. jump-sound p) (λ _. on)
 
-      move-sound : (p q : Pointer) → Says PlanSound (move_of lengths gates rights stacks depth r pointers p q)
-      unfolding move_of
-      move-sound p q = says-skip PlanSound (block_check r.a p q) (ok (copy p q r.a)) on
-
       effect-sound : (opcode register : ℕ) (p : Pointer) → PointerSound p → Says PlanSound (effect_of lengths gates rights stacks depth r pointers read opcode register p)
       unfolding effect_of
       effect-sound opcode register p sp =
           says_if PlanSound (is_load opcode) _ _ (λ _. load-sound opcode p) (λ _.
           says_if PlanSound (is_store opcode) _ _ (λ _. on) (λ _.
-          says_if PlanSound (eqb opcode 13) _ _ (λ _. move-sound p (get_or pointers register no_pointer)) (λ _.
           says_if PlanSound (eqb opcode 5) _ _ (λ _. record { segment = on.segment; word = on.word; pointers = pointer-set pointers register p ps sp }) (λ _.
           says_if PlanSound (eqb opcode 7) _ _ (λ _. jump-sound p) (λ _.
           says_if PlanSound (eqb opcode 8) _ _ (λ _. call-sound p) (λ _.
-          says_if PlanSound (eqb opcode 9) _ _ (λ _. return-sound p) (λ _. branch-sound (taken_of opcode r.a) p)))))))
+          says_if PlanSound (eqb opcode 9) _ _ (λ _. return-sound p) (λ _. branch-sound (taken_of opcode r.a) p))))))
 
       execute-sound : (i : Instruction) → BaseLt i → Says PlanSound (execute_of lengths gates rights stacks depth r pointers read i)
       unfolding execute_of

@@ -34,7 +34,7 @@ BaseLt i = i.base < 8
 pub base-lt : (w : ℕ) → Says BaseLt (instruction_of w)
 unfolding instruction_of
 base-lt w =
-    says-skip BaseLt (require (leb (field 24 8 w) 13) 27 >> require (eqb (common 32 w (get_or masks (field 24 8 w) 0)) 0) 27) _ (field_lt 12 3 w)
+    says-skip BaseLt (require (leb (field 24 8 w) 12) 27 >> require (eqb (common 32 w (get_or masks (field 24 8 w) 0)) 0) 27) _ (field_lt 12 3 w)
 
 range-most : (z : ℤ) → Says (λ n. n ≤ 4095) (in_range z)
 range-most (pos n) = says_if (λ n. n ≤ 4095) (leb n 4095) (ok n) (refuse 23) (leb-true n 4095) (λ _. tt)

@@ -36,8 +36,8 @@ module _ (depth : ℕ) (fs : List Frame) (few : depth ≤ 8) where
     where
       by : (u : Bool)
           → recent_test depth fs
-          (if u then registers_after rs (found_of rs depth (get_or fs (depth - 1) no_frame) (covers_of r.pointer.segment r.pointer.word r.count (is_read r.access) (not (is_read r.access)))) else rs) ≡ true
-      by true = found-sound depth fs rs t (covers_of r.pointer.segment r.pointer.word r.count (is_read r.access) (not (is_read r.access)))
+          (if u then registers_after rs (found_of rs depth (get_or fs (depth - 1) no_frame) (covers_of r.pointer.segment r.pointer.word 1 (is_read r.access) (not (is_read r.access)))) else rs) ≡ true
+      by true = found-sound depth fs rs t (covers_of r.pointer.segment r.pointer.word 1 (is_read r.access) (not (is_read r.access)))
       by false = t
 
   -- by references, one after the other
@@ -67,4 +67,4 @@ module _ (depth : ℕ) (fs : List Frame) (few : depth ≤ 8) where
 pub after-recent : (m : Machine) → m.depth ≤ 8 → recent_test m.depth m.frames m.recent ≡ true → (read : Reader) (i : Answer Instruction)
     → recent_test m.depth m.frames (recent_after m read i) ≡ true
 unfolding recent_after
-after-recent m few t read i = all-recent m.depth m.frames few m.recent t (made_of read m.registers.a m.pointers i)
+after-recent m few t read i = all-recent m.depth m.frames few m.recent t (made_of read m.pointers i)

@@ -3,7 +3,6 @@ use Prim.Native.Nat.{ℕ, ◌+◌}
 use native.Mathlib.Omega.{arith}
 use mathlib.Core.List.{List}
 use mathlib.Core.Path.{◌≡◌}
-use lib.ListN.{length}
 use Rattle.words.specs.Answer.{ok, ◌>>=◌}
 use Rattle.words.specs.InstructionWord.{instruction_of}
 use Rattle.words.specs.declared.pointer.Pointer.{Pointer}
@@ -15,10 +14,10 @@ use Rattle.references.specs.declared.flag.Flag.TheVariants as flag
 use Rattle.references.specs.declared.flag.Access.TheVariants as access
 use Rattle.references.specs.Static.{static_of}
 use Rattle.references.specs.Reference.{index_of, accept, locate_of}
-use Rattle.references.specs.Check.{check_run}
+use Rattle.references.specs.Check.{check}
 use Rattle.references.proofs.Passes.{static-exists, exists-facts}
-use Rattle.memory.specs.Reader.{Reader, RunReader, read_word, read_run, fetch, fetch_of}
-use Rattle.instructions.specs.Plan.{Plan, halt, move, store, copy, enter, leave}
+use Rattle.memory.specs.Reader.{Reader, read_word, fetch, fetch_of}
+use Rattle.instructions.specs.Plan.{Plan, halt, move, store, enter, leave}
 use Rattle.crossings.specs.Crossing.{enter_of, leave_of}
 use Rattle.runs.specs.Step.{Act, stop, proceed, put, cross, Done, moved_to, resolve, recent_after, decide, commit, execute}
 use Rattle.executions.proofs.Says.{Says, said, says-bind, says_then, says-accept}
@@ -80,25 +79,24 @@ module _ (m : Machine) (w : Whole m) where
   abbrev pub Planned : Plan → Type 0
   Planned = PlanSound m.layout.lengths m.layout.gates m.layout.rights m.layout.stacks m.depth m.registers m.pointers
 
-  resolve-sound : (read : Reader) (run : RunReader) (rs : List Register) (q : Pointer) → Fits m rs → (plan : Plan) → Planned plan → Says ActSound (resolve m read run rs q plan)
-  resolve-sound read run rs q t halt h = tt
-  resolve-sound read run rs q t (move a segment word ps) h = (h, t)
-  resolve-sound read run rs q t (store p v) h = (h, t)
-  resolve-sound read run rs q t (copy p u n) h = says_then ActSound (run p n) (λ vs. ok (put u vs rs)) (λ vs. (h, t))
-  resolve-sound read run rs q t (enter p) h = says-bind Whole ActSound (enter_of m read p) (λ n. ok (cross n)) (enter-whole m w read p h.sound h.free) (λ n x. x)
-  resolve-sound read run rs q t (leave p) h = says-bind Whole ActSound (leave_of m q p) (λ n. ok (cross n)) (leave-whole m w q p) (λ n x. x)
+  resolve-sound : (read : Reader) (rs : List Register) (q : Pointer) → Fits m rs → (plan : Plan) → Planned plan → Says ActSound (resolve m read rs q plan)
+  resolve-sound read rs q t halt h = tt
+  resolve-sound read rs q t (move a segment word ps) h = (h, t)
+  resolve-sound read rs q t (store p v) h = (h, t)
+  resolve-sound read rs q t (enter p) h = says-bind Whole ActSound (enter_of m read p) (λ n. ok (cross n)) (enter-whole m w read p h.sound h.free) (λ n x. x)
+  resolve-sound read rs q t (leave p) h = says-bind Whole ActSound (leave_of m q p) (λ n. ok (cross n)) (leave-whole m w q p) (λ n x. x)
 
   pub planned-sound : (words : List ℕ) → Says Planned (planned_by m words)
   planned-sound words =
       plan-sound m.layout.lengths m.layout.gates m.layout.rights m.layout.stacks m.depth m.registers m.pointers
       s.layout.lengths (stack-most m.layout s.layout m.registers.domain) s.pointers (read_word m words) (fetch m words) (fetch-on words)
 
-  decide-sound : (words : List ℕ) → Says ActSound (decide m (fetch m words) (read_word m words) (read_run m words))
+  decide-sound : (words : List ℕ) → Says ActSound (decide m (fetch m words) (read_word m words))
   unfolding decide
   decide-sound words =
       let i = fetch m words >>= instruction_of in
-      says-bind Planned ActSound (planned_by m words) (resolve m (read_word m words) (read_run m words) (recent_after m (read_word m words) i) (indirect_by m words)) (planned-sound words)
-      (resolve-sound (read_word m words) (read_run m words) _ _ (after-recent m s.frames.most s.recent (read_word m words) i))
+      says-bind Planned ActSound (planned_by m words) (resolve m (read_word m words) (recent_after m (read_word m words) i) (indirect_by m words)) (planned-sound words)
+      (resolve-sound (read_word m words) _ _ (after-recent m s.frames.most s.recent (read_word m words) i))
 
   abbrev WholeDone : Done → Type 0
   WholeDone d = Whole d.machine
@@ -108,14 +106,14 @@ module _ (m : Machine) (w : Whole m) where
   commit-sound words stop h = w
   commit-sound words (proceed a segment word ps rs) h = moved-whole a segment word ps rs h.0 h.1
   commit-sound words (put p v rs) h =
-      says_then WholeDone (check_run m access.Write p (length v)) _ (λ i. moved-whole m.registers.a r-segment (r-word + 1) m.pointers rs h.0 h.1)
+      says_then WholeDone (check m access.Write p) _ (λ i. moved-whole m.registers.a r-segment (r-word + 1) m.pointers rs h.0 h.1)
   commit-sound words (cross n) h = h
 
   step-whole : (words : List ℕ) (d : Done) → execute m words ≡ ok d → Whole d.machine
   unfolding execute
   step-whole words d e =
       said WholeDone _ d
-      (says-bind ActSound WholeDone (decide m (fetch m words) (read_word m words) (read_run m words)) (commit m words) (decide-sound words) (commit-sound words)) e
+      (says-bind ActSound WholeDone (decide m (fetch m words) (read_word m words)) (commit m words) (decide-sound words) (commit-sound words)) e
 
 good : (m : Machine) → Whole m → SoundRecord m
 good m w = (facts-sound m w.sound, w.room)

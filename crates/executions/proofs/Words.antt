@@ -1,20 +1,20 @@
 -- A run keeps the layout, the number of words, and the words past the last segment.
-use Prim.Native.Nat.{ℕ, suc, ◌+◌, ◌≤◌}
+use Prim.Native.Nat.{ℕ, ◌≤◌}
 use native.Mathlib.Omega.{arith}
 use mathlib.Core.Bool.{Bool}
-use mathlib.Core.List.{List, [], ◌∷◌}
+use mathlib.Core.List.{List}
 use mathlib.Core.Path.{◌≡◌, refl, ap, ◌∙◌}
-use lib.ListN.{length, get_or, set}
-use lib.Seq.{get_or-set_other, sets, length-sets}
+use lib.ListN.{length, get_or, set, length-set}
+use lib.Seq.{get_or-set_other}
 use Rattle.words.specs.Answer.{ok}
 use Rattle.words.specs.declared.pointer.Pointer.{Pointer}
 use Rattle.state.specs.declared.record.Layout.{Layout}
 use Rattle.state.specs.declared.record.Machine.{Machine}
 use Rattle.state.specs.Bases.{words_in}
 use Rattle.references.specs.declared.flag.Access.TheVariants as access
-use Rattle.references.specs.Check.{check_run}
-use Rattle.references.proofs.Places.{run-lt}
-use Rattle.memory.specs.Reader.{Reader, read_word, read_run, fetch}
+use Rattle.references.specs.Check.{check}
+use Rattle.references.proofs.Places.{check-lt}
+use Rattle.memory.specs.Reader.{Reader, read_word, fetch}
 use Rattle.crossings.specs.Crossing.{enter_of, leave_of, entered, left}
 use Rattle.runs.specs.Step.{Act, stop, proceed, put, cross, Done, decide, commit, execute}
 use Rattle.runs.specs.Run.{run_from}
@@ -23,11 +23,6 @@ use Rattle.executions.proofs.Says.{Says, itself, said, says-bind, says_then, say
 use Rattle.executions.proofs.Acts.{CrossesTo, decide-crosses}
 use Rattle.executions.proofs.Runs.{run-keeps}
 use Rattle.executions.specs.Statements.{RunLayout, RunLength, RunPast}
-
--- a run of stores leaves what lies past it
-sets-past : (vs l : List ℕ) (i j : ℕ) → i + length vs ≤ j → get_or (sets l i vs) j 0 ≡ get_or l j 0
-sets-past [] l i j h = refl
-sets-past (a ∷ vs) l i j h = sets-past vs (set l i a) (suc i) j (omega (arith, h)) ∙ get_or-set_other l i j a 0 (λ q. omega (arith, h, q))
 
 -- a record and words that came of those of a start
 pub record Came (l : Layout) (words : List ℕ) (n : Machine) (now : List ℕ) : Type 0 where
@@ -53,21 +48,24 @@ module _ (l : Layout) (words : List ℕ) (m : Machine) (now : List ℕ) (h : Cam
   abbrev CameBy : Done → Type 0
   CameBy d = Came l words d.machine d.words
 
-  stored-came : (n : Machine) → n.layout ≡ m.layout → (p : Pointer) (vs : List ℕ) (i : ℕ) → check_run m access.Write p (length vs) ≡ ok i → Came l words n (sets now i vs)
-  stored-came n same p vs i e = record {
+  stored-came : (n : Machine) → n.layout ≡ m.layout → (p : Pointer) (v i : ℕ) → check m access.Write p ≡ ok i → Came l words n (set now i v)
+  stored-came n same p v i e = record {
     layout = same ∙ h.layout;
-    room = length-sets now i vs ∙ h.room;
-    past = λ j b.
-        let z : words_in m.layout.lengths ≡ words_in l.lengths = ap (λ (x : Layout). words_in x.lengths) h.layout in
-        sets-past vs now i j (omega (arith, b, run-lt m access.Write p (length vs) i e)) ∙ h.past j b;
+    room = length-set now i v ∙ h.room;
+    past = λ j b. get_or-set_other now i j v 0 (apart j b) ∙ h.past j b;
   }
+    where
+      apart : (j : ℕ) → words_in l.lengths ≤ j → j ≡ i → ⊥
+      apart j b q =
+          let z : words_in m.layout.lengths ≡ words_in l.lengths = ap (λ (x : Layout). words_in x.lengths) h.layout in
+          omega (arith, check-lt m access.Write p i e)
 
   commit-came : (a : Act) → CrossesTo (Same m) a → Says CameBy (commit m now a)
   unfolding commit
   commit-came stop s = h
   commit-came (proceed a s w ps rs) _ = record { layout = h.layout; room = h.room; past = h.past }
   commit-came (put p v rs) _ =
-      says-bind (λ i. check_run m access.Write p (length v) ≡ ok i) CameBy (check_run m access.Write p (length v)) _ (itself (check_run m access.Write p (length v)))
+      says-bind (λ i. check m access.Write p ≡ ok i) CameBy (check m access.Write p) _ (itself (check m access.Write p))
       (λ i e. stored-came _ refl p v i e)
   commit-came (cross n) s = record { layout = s ∙ h.layout; room = h.room; past = h.past }
 
@@ -75,8 +73,8 @@ module _ (l : Layout) (words : List ℕ) (m : Machine) (now : List ℕ) (h : Cam
   unfolding execute
   step-came d e =
       said CameBy _ d
-      (says-bind (CrossesTo (Same m)) CameBy (decide m (fetch m now) (read_word m now) (read_run m now)) (commit m now)
-      (decide-crosses m (Same m) (fetch m now) (read_word m now) (read_run m now) (λ p e. enter-same m (read_word m now) p) (λ p e. leave_same m _ p)) commit-came) e
+      (says-bind (CrossesTo (Same m)) CameBy (decide m (fetch m now) (read_word m now)) (commit m now)
+      (decide-crosses m (Same m) (fetch m now) (read_word m now) (λ p e. enter-same m (read_word m now) p) (λ p e. leave_same m _ p)) commit-came) e
 
 pub step-length : (m : Machine) (words : List ℕ) (d : Done) → execute m words ≡ ok d → length d.words ≡ length words
 step-length m words d e = (step-came m.layout words m words (record { layout = refl; room = refl; past = λ i l. refl }) d e).room

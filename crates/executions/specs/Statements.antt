@@ -19,7 +19,7 @@ use Rattle.executions.specs.Called.{steps_called}
 
 -- the numbers of faults
 abbrev pub Fault : ℕ → Type 0
-Fault n = (21 ≤ n) × (n ≤ 33)
+Fault n = (21 ≤ n) × (n ≤ 32)
 
 -- a sound record; its list of frames is as long as the array
 abbrev pub SoundRecord : Machine → Type 0
@@ -145,7 +145,7 @@ RunFaulted =
     (stretch : Bool) (k n : ℕ) (m : Machine) (words : List ℕ) (f : ℕ) → (run_from stretch k n m words).ending ≡ faulted f
     → execute (run_from stretch k n m words).machine (run_from stretch k n m words).words ≡ refuse f
 
--- a fault of an instruction, and of a run, is a number from 21 to 33
+-- a fault of an instruction, and of a run, is a number from 21 to 32
 abbrev pub FaultNumber : Type 0
 FaultNumber = (m : Machine) (words : List ℕ) (n : ℕ) → execute m words ≡ refuse n → Fault n
 

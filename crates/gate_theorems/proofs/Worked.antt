@@ -19,7 +19,7 @@ use Rattle.fresh.specs.Fresh.{fresh_of}
 use Rattle.layout_soundness.specs.SoundLayout.{all_from, gate_test, gates_test}
 use Rattle.references.specs.Flag.{has}
 use Rattle.references.specs.Static.{exists, rights_of, static_of}
-use Rattle.references.specs.Reference.{verdict_run, locate_of, reference_run}
+use Rattle.references.specs.Reference.{verdict_of, locate_of, reference_of}
 use Rattle.memory.specs.Reader.{read_of, fetch_of, read_word, fetch}
 use Rattle.addressing.specs.Effective.{displaced_by, through_of, effective_of}
 use Rattle.transfers.specs.Transfer.{call_way}
@@ -81,7 +81,7 @@ pub record Computed : Type 0 where
 
 pub computed : Computed
 unfolding field common signed_of displaced_of pointer_of instruction_of base_of bases_of fresh_of padded joined layout_of
-    has exists rights_of static_of verdict_run locate_of reference_run read_of fetch_of read_word fetch displaced_by through_of effective_of
+    has exists rights_of static_of verdict_of locate_of reference_of read_of fetch_of read_word fetch displaced_by through_of effective_of
     call_way call_of is_load is_store effect_of execute_of plan_of list_word source_of list_pointer arguments_from frame_after frame_of
     entered enter_of decide commit execute
 computed = record { dead = (refl, refl); alive = (refl, refl); gateless = refl }
@@ -102,7 +102,7 @@ frame =
 
 calls : CalledTo (start 1 4) program (entered (start 1 4) gate frame)
 unfolding field common signed_of displaced_of pointer_of instruction_of base_of bases_of fresh_of padded joined layout_of
-    has exists rights_of static_of verdict_run locate_of reference_run read_of fetch_of read_word fetch displaced_by through_of effective_of
+    has exists rights_of static_of verdict_of locate_of reference_of read_of fetch_of read_word fetch displaced_by through_of effective_of
     call_way call_of is_load is_store effect_of execute_of plan_of list_word source_of list_pointer arguments_from frame_after frame_of entered enter_of
 calls = record { gate = gate; asked = refl; made = refl }
 

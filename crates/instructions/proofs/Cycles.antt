@@ -1,24 +1,23 @@
--- Where each instruction's plan settles, and that only a store and a copy change words.
+-- Where each instruction's plan settles, and that only a store changes words.
 use Prim.Native.Nat.{ℕ, ◌+◌}
 use mathlib.Core.Bool.{Bool, true, false}
 use mathlib.Core.List.{List}
 use mathlib.Core.Path.{◌≡◌, refl, sym, ap, ◌∙◌}
 use lib.Dec.{eqb}
-use Rattle.words.specs.Answer.{Answer, refuse, ok, ◌>>=◌, ◌>>◌, if◌then◌else◌}
+use Rattle.words.specs.Answer.{Answer, refuse, ok, ◌>>=◌, if◌then◌else◌}
 use Rattle.words.specs.declared.pointer.Pointer.{Pointer}
 use Rattle.state.specs.declared.record.Frame.{Frame}
 use Rattle.state.specs.declared.record.Register.{Register}
 use Rattle.state.specs.declared.record.Registers.{Registers}
 use Rattle.references.specs.Reference.{accept}
 use Rattle.memory.specs.Reader.{Reader}
-use Rattle.instructions.specs.Plan.{Plan, move, copy, enter}
+use Rattle.instructions.specs.Plan.{Plan, move, enter}
 use Rattle.transfers.specs.Transfer.{jump_check, call_way}
-use Rattle.instructions.specs.Instruction.{jump_of, call_of, load_of, move_of, next, operate_of}
+use Rattle.instructions.specs.Instruction.{jump_of, call_of, load_of, next, operate_of}
 use Rattle.pointer_registers.specs.Stack.{stack_of, with_base}
 use Rattle.instructions.specs.Cycle.{Progress, moved, entering, moved_registers, settled, settled_words}
 use Rattle.memory.proofs.Answers.{accept-then}
-use Rattle.instructions.specs.Private.{loaded, copied, called, settled_answer}
-use Rattle.blocks.specs.Block.{block_check, copied_of, block_of, words_after}
+use Rattle.instructions.specs.Private.{loaded, called, settled_answer}
 
 module _ (lengths gates rights stacks bases words : List ℕ) (recent : List Register) (depth : ℕ) (frame : Frame) (r : Registers) (pointers : List Pointer) (q : Pointer) where
   abbrev to : Answer Plan → Answer Progress
@@ -59,16 +58,3 @@ module _ (lengths gates rights stacks bases words : List ℕ) (recent : List Reg
       by (refuse n) = record { there = refl; words-stay = refl }
       by (ok true) = record { there = refl; words-stay = refl }
       by (ok false) = record { there = refl; words-stay = refl }
-
-  -- MOVE settles as its block is copied
-  pub move-settles : (p t : Pointer) → let x = block_of lengths rights bases words r.domain recent depth frame p t r.a in
-      (to (move_of lengths gates rights stacks depth r pointers p t) ≡ copied r pointers x) × (left (move_of lengths gates rights stacks depth r pointers p t) ≡ words_after words x)
-  unfolding move_of block_of
-  move-settles p t = by (block_check r.a p t)
-    where
-      x : Answer (List ℕ)
-      x = copied_of lengths rights bases words r.domain recent depth frame p t r.a
-
-      by : (y : Answer ℕ) → (to (y >> ok (copy p t r.a)) ≡ copied r pointers (y >> x)) × (left (y >> ok (copy p t r.a)) ≡ words_after words (y >> x))
-      by (refuse n) = (refl, refl)
-      by (ok n) = (refl, refl)

@@ -11,7 +11,7 @@ use Rattle.state.specs.declared.record.Registers.{Registers}
 use Rattle.references.proofs.Passes.{never}
 use Rattle.memory.specs.Reader.{Reader}
 use Rattle.instructions.specs.Plan.{Plan, leave}
-use Rattle.instructions.specs.Instruction.{EPP, JUMP, CALL, RET, MOVE, is_load, is_store, taken_of, jump_of, return_of, branch_of, effect_of, next}
+use Rattle.instructions.specs.Instruction.{EPP, JUMP, CALL, RET, is_load, is_store, taken_of, jump_of, return_of, branch_of, effect_of, next}
 use Rattle.instructions.specs.Private.{jumps_of}
 
 -- EPP and CALL do not jump
@@ -29,15 +29,6 @@ not_call opcode a tag h = by (eqb opcode CALL) refl
   where
     by : (t : Bool) → eqb opcode CALL ≡ t → t ≡ false
     by true q = never (rw (eqb-true opcode CALL q) at h)
-    by false q = refl
-
--- nor does MOVE
-pub not_move : (opcode a : ℕ) (tag : Bool) → jumps_of opcode a tag ≡ true → eqb opcode MOVE ≡ false
-unfolding jumps_of taken_of
-not_move opcode a tag h = by (eqb opcode MOVE) refl
-  where
-    by : (t : Bool) → eqb opcode MOVE ≡ t → t ≡ false
-    by true q = never (rw (eqb-true opcode MOVE q) at h)
     by false q = refl
 
 -- by whether the opcode is JUMP, or RET, the tag, and whether a branch is taken
@@ -70,14 +61,14 @@ module _ (lengths gates rights stacks : List ℕ) (depth : ℕ) (r : Registers) 
   pub jumping : jumps_of opcode r.a p.tag ≡ true → does ≡ there
   unfolding jumps_of effect_of return_of branch_of
   jumping h =
-      simp (no-load, no_store, not_move opcode r.a p.tag h, not-epp opcode r.a p.tag h, not_call opcode r.a p.tag h)
+      simp (no-load, no_store, not-epp opcode r.a p.tag h, not_call opcode r.a p.tag h)
       (to-there (eqb opcode JUMP) (eqb opcode RET) p.tag (taken_of opcode r.a) there (ok (leave p)) on h)
 
   module _ (stays : jumps_of opcode r.a p.tag ≡ false) where
-    pub moving-on : eqb opcode MOVE ≡ false → eqb opcode EPP ≡ false → eqb opcode CALL ≡ false → eqb opcode RET ≡ false → does ≡ on
+    pub moving-on : eqb opcode EPP ≡ false → eqb opcode CALL ≡ false → eqb opcode RET ≡ false → does ≡ on
     unfolding jumps_of effect_of branch_of
-    moving-on v e c t =
-        simp (no-load, no_store, v, e, c, t)
+    moving-on e c t =
+        simp (no-load, no_store, e, c, t)
         (to-next (eqb opcode JUMP) (taken_of opcode r.a) there on (rw t at stays))
 
     pub leaving-by : opcode ≡ RET → does ≡ ok (leave p)

@@ -4,7 +4,6 @@ use mathlib.Core.Bool.{Bool, true, false, ◌||◌}
 use mathlib.Core.List.{List, [], ◌∷◌}
 use mathlib.Core.Path.{◌≡◌, refl, sym, ap, ◌∙◌}
 use native.Mathlib.Omega.{arith}
-use lib.Dec.{eqb}
 use lib.ListN.{get_or}
 use Rattle.words.specs.Answer.{Answer, refuse, ok, ◌>>=◌, if◌then◌else◌}
 use Rattle.words.specs.PointerWord.{pointer_of}
@@ -25,7 +24,7 @@ use Rattle.addressing.specs.Effective.{displaced_by, placed, through_of, effecti
 use Rattle.instructions.specs.declared.cycle.Cycle.{Cycle}
 use Rattle.instructions.specs.declared.cycle.Event.{Event}
 use Rattle.instructions.specs.declared.cycle.Event.TheVariants as event
-use Rattle.instructions.specs.Instruction.{MOVE, is_load, is_store}
+use Rattle.instructions.specs.Instruction.{is_load, is_store}
 use Rattle.instructions.specs.Made.{indirect_place, operand_made}
 use Rattle.instructions.specs.Cycle.{Progress, ended, moved, entering, leaving, event_answer, cycle_answer, recent_by}
 use Rattle.instructions.specs.Private.{Reached, called}
@@ -52,16 +51,16 @@ module _ (depth : ℕ) (f : Frame) where
   unfolding renewed_all
   untagged-indirect rs q e = untagged-renewed rs (made_read q) e
 
-module _ (opcode a : ℕ) (t p : Pointer) where
-  nothing-made : is_load opcode ≡ false → is_store opcode ≡ false → eqb opcode MOVE ≡ false → operand_made opcode a t p ≡ []
-  nothing-made e q m = rw (e, q, m)
+module _ (opcode : ℕ) (p : Pointer) where
+  nothing-made : is_load opcode ≡ false → is_store opcode ≡ false → operand_made opcode p ≡ []
+  nothing-made e q = rw (e, q)
 
   -- an opcode without an operand: its indirect word alone is noted, and an untagged one not at all
-  module _ (depth : ℕ) (f : Frame) (rs : List Register) (q : Pointer) (l : is_load opcode ≡ false) (s : is_store opcode ≡ false) (m : eqb opcode MOVE ≡ false) where
-    pub indirect-noted : (ys : List Register) → ys ≡ renewed_all rs depth f (made_read q ∷ []) → ys ≡ renewed_all rs depth f (made_read q ∷ operand_made opcode a t p)
-    indirect-noted ys e = e ∙ ap (λ (x : List MadeReference). renewed_all rs depth f (made_read q ∷ x)) (sym (nothing-made l s m))
+  module _ (depth : ℕ) (f : Frame) (rs : List Register) (q : Pointer) (l : is_load opcode ≡ false) (s : is_store opcode ≡ false) where
+    pub indirect-noted : (ys : List Register) → ys ≡ renewed_all rs depth f (made_read q ∷ []) → ys ≡ renewed_all rs depth f (made_read q ∷ operand_made opcode p)
+    indirect-noted ys e = e ∙ ap (λ (x : List MadeReference). renewed_all rs depth f (made_read q ∷ x)) (sym (nothing-made l s))
 
-    pub nothing-noted : q.tag ≡ false → renewed_all rs depth f (made_read q ∷ operand_made opcode a t p) ≡ rs
+    pub nothing-noted : q.tag ≡ false → renewed_all rs depth f (made_read q ∷ operand_made opcode p) ≡ rs
     nothing-noted e = sym (indirect-noted rs (sym (untagged-indirect depth f rs q e)))
 
 -- the registers by where the instruction came to

@@ -13,8 +13,7 @@ use Rattle.instructions.specs.declared.cycle.Cycle.{Cycle}
 use Rattle.words.specs.InstructionWord.{instruction_of}
 use Rattle.references.specs.Made.{renewed_all}
 use Rattle.memory.specs.Reader.{Reader, read_of, fetch_of, written_of}
-use Rattle.blocks.specs.Block.{copied_of, words_after}
-use Rattle.instructions.specs.Plan.{Plan, halt, move, store, copy, enter, leave}
+use Rattle.instructions.specs.Plan.{Plan, halt, move, store, enter, leave}
 use Rattle.instructions.specs.Instruction.{plan_of}
 use Rattle.instructions.specs.Made.{made_of, place_of}
 
@@ -56,17 +55,12 @@ Stays r t = stays_by r t.registers t.event
 abbrev pub moved_registers : Registers → ℕ → ℕ → ℕ → Registers
 moved_registers r a segment word = record { a = a; word = word; segment = segment; domain = r.domain }
 
--- on to the next word
-abbrev pub moved_on : Registers → List Pointer → Progress
-moved_on r pointers = moved (moved_registers r r.a r.segment (r.word + 1)) pointers
-
 module _ (lengths rights bases words : List ℕ) (recent : List Register) (depth : ℕ) (frame : Frame) (r : Registers) (pointers : List Pointer) where
   -- a plan carried out, its store judged; q is the place of the instruction's indirect word
   abbrev pub settled : Pointer → Plan → Answer Progress
   settled q halt = ok ended
   settled q (move a segment word next) = ok (moved (moved_registers r a segment word) next)
-  settled q (store p v) = accept (verdict_of lengths rights r.domain recent depth frame access.Write p) (moved_on r pointers)
-  settled q (copy p t n) = copied_of lengths rights bases words r.domain recent depth frame p t n >>= (λ next. ok (moved_on r pointers))
+  settled q (store p v) = accept (verdict_of lengths rights r.domain recent depth frame access.Write p) (moved (moved_registers r r.a r.segment (r.word + 1)) pointers)
   settled q (enter p) = ok (entering p)
   settled q (leave p) = ok (leaving p q)
 
@@ -76,7 +70,6 @@ module _ (lengths rights bases words : List ℕ) (recent : List Register) (depth
   settled_words (ok halt) = words
   settled_words (ok (move a segment word next)) = words
   settled_words (ok (store p v)) = written_of lengths rights bases words r.domain recent depth frame p v
-  settled_words (ok (copy p t n)) = words_after words (copied_of lengths rights bases words r.domain recent depth frame p t n)
   settled_words (ok (enter p)) = words
   settled_words (ok (leave p)) = words
 
@@ -106,4 +99,4 @@ module _ (lengths gates rights stacks bases words : List ℕ) (recent : List Reg
   cycle_words = settled_words lengths rights bases words recent depth frame r pointers planned
 
   unfoldable pub cycle_recent : List Register
-  cycle_recent = recent_by recent (renewed_all recent depth frame (made_of reader r.a pointers (fetched >>= instruction_of))) cycle_of
+  cycle_recent = recent_by recent (renewed_all recent depth frame (made_of reader pointers (fetched >>= instruction_of))) cycle_of

@@ -1,6 +1,6 @@
--- The fourteen instructions.
+-- The thirteen instructions.
 use Rattle.std.specs.Prelude.{ℕ, ◌+◌, ◌^◌, Bool, false, ◌||◌, List, eqb, leb, get_or, set}
-use Rattle.words.specs.Answer.{Answer, ok, ◌>>=◌, ◌>>◌, if◌then◌else◌}
+use Rattle.words.specs.Answer.{Answer, ok, ◌>>=◌, if◌then◌else◌}
 use Rattle.words.specs.Arithmetic.{sum_of, difference_of}
 use Rattle.words.specs.Offset.{literal_of}
 use Rattle.words.specs.PointerWord.{pointer_word}
@@ -13,9 +13,8 @@ use Rattle.references.specs.Reference.{accept}
 use Rattle.pointer_registers.specs.Stack.{with_base, stack_of}
 use Rattle.transfers.specs.Transfer.{jump_check, call_way}
 use Rattle.memory.specs.Reader.{Reader}
-use Rattle.blocks.specs.Block.{block_check}
 use Rattle.addressing.specs.Effective.{effective_of}
-use Rattle.instructions.specs.Plan.{Plan, halt, move, store, copy, enter, leave}
+use Rattle.instructions.specs.Plan.{Plan, halt, move, store, enter, leave}
 
 -- the opcodes
 abbrev pub HALT : ℕ
@@ -56,9 +55,6 @@ JM = 11
 
 abbrev pub LIT : ℕ
 LIT = 12
-
-abbrev pub MOVE : ℕ
-MOVE = 13
 
 -- what LOAD, ADD and SUB make of A and the word there
 abbrev pub operate_of : ℕ → ℕ → ℕ → ℕ
@@ -107,21 +103,16 @@ module _ (lengths gates rights stacks : List ℕ) (depth : ℕ) (r : Registers) 
   unfoldable pub branch_of : Bool → Pointer → Answer Plan
   branch_of taken p = if taken then jump_of p else ok (next r.a)
 
-  -- MOVE: A has the count
-  unfoldable pub move_of : Pointer → Pointer → Answer Plan
-  move_of p q = block_check r.a p q >> ok (copy p q r.a)
-
   -- the effect of an opcode at an effective pointer
   unfoldable pub effect_of : Reader → ℕ → ℕ → Pointer → Answer Plan
   effect_of read opcode register p =
       if is_load opcode then load_of read opcode p else (
       if is_store opcode then ok (store p (value_of opcode r.a pointers register)) else (
-      if eqb opcode MOVE then move_of p (get_or pointers register no_pointer) else (
       if eqb opcode EPP then ok (move r.a r.segment (r.word + 1) (set pointers register p)) else (
       if eqb opcode JUMP then jump_of p else (
       if eqb opcode CALL then call_of p else (
       if eqb opcode RET then return_of p else
-      branch_of (taken_of opcode r.a) p))))))
+      branch_of (taken_of opcode r.a) p)))))
 
   -- HALT and LIT form no effective pointer
   unfoldable pub execute_of : Reader → Instruction → Answer Plan

@@ -9,8 +9,6 @@ pub data Plan : Type 0 where
   move : ℕ → ℕ → ℕ → List Pointer → Plan
   -- store a word through a pointer, and go on at the next word
   store : Pointer → ℕ → Plan
-  -- copy so many words from the first pointer to the second, and go on at the next word
-  copy : Pointer → Pointer → ℕ → Plan
   -- call through the gate at a pointer
   enter : Pointer → Plan
   -- return across domains to the place at a pointer

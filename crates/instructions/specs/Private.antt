@@ -9,7 +9,7 @@ use Rattle.state.specs.declared.record.Frame.{Frame}
 use Rattle.state.specs.declared.record.Register.{Register}
 use Rattle.instructions.specs.declared.cycle.Cycle.{Cycle}
 use Rattle.instructions.specs.Instruction.{operate_of, JUMP, RET, taken_of}
-use Rattle.instructions.specs.Cycle.{Progress, moved, entering, cycle_answer, moved_registers, moved_on, settled, recent_by}
+use Rattle.instructions.specs.Cycle.{Progress, moved, entering, cycle_answer, moved_registers, settled, recent_by}
 
 -- whether an opcode jumps to an effective pointer of this tag
 unfoldable pub jumps_of : ℕ → ℕ → Bool → Bool
@@ -22,10 +22,6 @@ Cycles t f = (pointers : List Pointer) → cycle_answer pointers t ≡ f pointer
 -- LOAD, ADD or SUB with the word read
 abbrev pub loaded : Registers → List Pointer → ℕ → Answer ℕ → Answer Progress
 loaded r pointers opcode answer = answer >>= (λ w. ok (moved (moved_registers r (operate_of opcode r.a w) r.segment (r.word + 1)) pointers))
-
--- MOVE with its block copied
-abbrev pub copied : Registers → List Pointer → Answer (List ℕ) → Answer Progress
-copied r pointers answer = answer >>= (λ next. ok (moved_on r pointers))
 
 -- a call whose checks are made
 abbrev pub called : Registers → List Pointer → ℕ → Pointer → Answer Bool → Answer Progress

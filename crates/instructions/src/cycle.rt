@@ -1,7 +1,6 @@
 // One instruction, but for a crossing.
-ghost use Rattle.std.specs.Prelude.{◌≡◌, ◌<◌, ◌∷◌, get_or};
+ghost use Rattle.std.specs.Prelude.{◌≡◌, ◌<◌, ◌∷◌};
 ghost use Rattle.lent_registers.specs.Columns.{registers_of};
-ghost use Rattle.state.specs.Record.{no_pointer};
 ghost use Rattle.references.specs.Made.{made_read, renewed_all};
 ghost use Rattle.memory.specs.Reader.{read_of};
 ghost use Rattle.instructions.specs.Instruction.{value_of, effect_of, execute_of};
@@ -9,7 +8,7 @@ ghost use Rattle.instructions.specs.Cycle.{Stays, cycle_answer, cycle_of, cycle_
 ghost use Rattle.instructions.specs.Made.{indirect_place, operand_made, made_by};
 ghost use Rattle.instructions.specs.Private.{jumps_of, settled_answer, Reached};
 
-use crate::effects::{call, copy, go_to, load, onward, save, stay};
+use crate::effects::{call, go_to, load, onward, save, stay};
 use crate::made::{indirect_place, note_indirect};
 use crate::opcodes::{is_load, is_store};
 use addressing::effective;
@@ -84,7 +83,7 @@ fn effect<'a>(
     ensures result_value { cycle_answer pointers result ≡ settled_answer lengths.now rights.now bases.now words.old (registers_of recent.old) depth frame r pointers q (effect_of lengths.now gates.now rights.now stacks.now depth r pointers (read_of lengths.now rights.now bases.now words.old r.domain (registers_of recent.old) depth frame) i.opcode i.register p) }
     ensures words_after { words.new ≡ settled_words lengths.now rights.now bases.now words.old (registers_of recent.old) depth frame r pointers (effect_of lengths.now gates.now rights.now stacks.now depth r pointers (read_of lengths.now rights.now bases.now words.old r.domain (registers_of recent.old) depth frame) i.opcode i.register p) }
     ensures stays { Stays r result }
-    ensures recent_after { registers_of recent.new ≡ recent_by (registers_of recent.old) (renewed_all (registers_of recent.old) depth frame (made_read q ∷ operand_made i.opcode r.a (get_or pointers i.register no_pointer) p)) (cycle_answer pointers result) }
+    ensures recent_after { registers_of recent.new ≡ recent_by (registers_of recent.old) (renewed_all (registers_of recent.old) depth frame (made_read q ∷ operand_made i.opcode p)) (cycle_answer pointers result) }
 {
     let opcode = i.opcode;
     if is_load(opcode) {
@@ -112,19 +111,6 @@ fn effect<'a>(
         }
         8 => call(lengths, gates, rights, stacks, depth, r, p),
         9 => stay(r, Event::Leaving(p, q)),
-        13 => copy(
-            lengths,
-            rights,
-            bases,
-            words,
-            recent,
-            depth,
-            frame,
-            r,
-            q,
-            p,
-            pointer_at(pointers, i.register),
-        ),
         _ => {
             note_indirect(recent, depth, frame, q);
             onward(r, r.a, Event::Moved)
@@ -151,7 +137,7 @@ fn perform<'a>(
     ensures result_value { cycle_answer pointers result ≡ settled_answer lengths.now rights.now bases.now words.old (registers_of recent.old) depth frame r pointers (indirect_place pointers i) (execute_of lengths.now gates.now rights.now stacks.now depth r pointers (read_of lengths.now rights.now bases.now words.old r.domain (registers_of recent.old) depth frame) i) }
     ensures words_after { words.new ≡ settled_words lengths.now rights.now bases.now words.old (registers_of recent.old) depth frame r pointers (execute_of lengths.now gates.now rights.now stacks.now depth r pointers (read_of lengths.now rights.now bases.now words.old r.domain (registers_of recent.old) depth frame) i) }
     ensures stays { Stays r result }
-    ensures recent_after { registers_of recent.new ≡ recent_by (registers_of recent.old) (renewed_all (registers_of recent.old) depth frame (made_by (read_of lengths.now rights.now bases.now words.old r.domain (registers_of recent.old) depth frame) r.a pointers i)) (cycle_answer pointers result) }
+    ensures recent_after { registers_of recent.new ≡ recent_by (registers_of recent.old) (renewed_all (registers_of recent.old) depth frame (made_by (read_of lengths.now rights.now bases.now words.old r.domain (registers_of recent.old) depth frame) pointers i)) (cycle_answer pointers result) }
 {
     let opcode = i.opcode;
     if opcode == 0 {

@@ -8,14 +8,11 @@ ghost use Rattle.transfers.specs.Transfer.{call_way};
 ghost use Rattle.instructions.specs.Instruction.{operate_of};
 ghost use Rattle.pointer_registers.specs.Stack.{stack_of};
 ghost use Rattle.instructions.specs.Cycle.{settled, moved_registers, Stays};
-ghost use Rattle.references.specs.declared.flag.Access.TheVariants as access;
-ghost use Rattle.blocks.specs.Block.{block_of, words_after};
-ghost use Rattle.instructions.specs.Private.{Cycles, loaded, copied, called, Reached, Renews};
-ghost use Rattle.references.specs.Made.{made, made_read, made_write, renewed_all};
+ghost use Rattle.instructions.specs.Private.{Cycles, loaded, called, Reached, Renews};
+ghost use Rattle.references.specs.Made.{made_read, made_write, renewed_all};
 
 use crate::cycle::{Cycle, Event};
-use crate::made::{note, note_block};
-use blocks::move_block;
+use crate::made::note;
 use memory::{WordAnswer, read, write};
 use pointer_registers::stack_of;
 use references::flag::Access;
@@ -135,36 +132,6 @@ pub fn save<'a>(
         return stay(r, Event::Faulted(n));
     }
     note(recent, depth, frame, q, Access::Write, p);
-    onward(r, r.a, Event::Moved)
-}
-
-// MOVE of A's count of words from p to t; q is the place of the indirect word.
-pub fn copy<'a>(
-    lengths: &'a [u16; 16],
-    rights: &'a [u8; 128],
-    bases: &'a [u32; 16],
-    words: &mut [u32],
-    recent: &mut [u8; 160],
-    depth: u8,
-    frame: Frame,
-    r: Registers,
-    q: Pointer,
-    p: Pointer,
-    t: Pointer,
-) -> Cycle
-    requires { r.word < 65535 }
-    ensures cycles { Cycles result (λ ps. copied r ps (block_of lengths.now rights.now bases.now words.old r.domain (registers_of recent.old) depth frame p t r.a)) }
-    ensures words_after { words.new ≡ words_after words.old (block_of lengths.now rights.now bases.now words.old r.domain (registers_of recent.old) depth frame p t r.a) }
-    ensures stays { Stays r result }
-    ensures renews { Renews result (registers_of recent.new) (registers_of recent.old) (renewed_all (registers_of recent.old) depth frame (made_read q ∷ made access.Read p r.a ∷ made access.Write t r.a ∷ [])) }
-{
-    let n = move_block(
-        lengths, rights, bases, words, r.domain, recent, depth, frame, p, t, r.a,
-    );
-    if n != 0 {
-        return stay(r, Event::Faulted(n));
-    }
-    note_block(recent, depth, frame, q, p, t, (r.a % 65536) as u16);
     onward(r, r.a, Event::Moved)
 }
 

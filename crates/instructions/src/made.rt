@@ -2,14 +2,13 @@
 ghost use Rattle.std.specs.Prelude.{◌≡◌, [], ◌∷◌};
 ghost use Rattle.lent_registers.specs.Columns.{registers_of};
 ghost use Rattle.state.specs.Record.{no_pointer};
-ghost use Rattle.references.specs.Made.{made, made_read, renewed, renewed_all};
+ghost use Rattle.references.specs.Made.{made_read, renewed, renewed_all};
 ghost use Rattle.instructions.specs.Made.{indirect_place};
-ghost use Rattle.references.specs.declared.flag.Access.TheVariants as access;
 ghost use Rattle.instructions.specs.Private.{Reached};
 
 use pointer_registers::pointer_at;
 use references::flag::Access;
-use references::renewal::{renew, renew_run};
+use references::renewal::renew;
 use state::record::Frame;
 use words::instruction::Instruction;
 use words::offset::displace;
@@ -61,7 +60,7 @@ fn note_both(
     access: Access,
     p: Pointer,
 )
-    ensures { registers_of recent.new ≡ renewed_all (registers_of recent.old) depth frame (made_read q ∷ made access p 1 ∷ []) }
+    ensures { registers_of recent.new ≡ renewed_all (registers_of recent.old) depth frame (made_read q ∷ record { access = access; pointer = p } ∷ []) }
 {
     note_indirect(recent, depth, frame, q);
     renew(recent, depth, frame, access, p);
@@ -70,26 +69,9 @@ fn note_both(
 // Those of one with its indirect word at q and its operand at p.
 pub fn note(recent: &mut [u8; 160], depth: u8, frame: Frame, q: Pointer, access: Access, p: Pointer)
     requires { Reached q p }
-    ensures { registers_of recent.new ≡ renewed_all (registers_of recent.old) depth frame (made_read q ∷ made access p 1 ∷ []) }
+    ensures { registers_of recent.new ≡ renewed_all (registers_of recent.old) depth frame (made_read q ∷ record { access = access; pointer = p } ∷ []) }
 {
     if p.tag {
         note_both(recent, depth, frame, q, access, p);
     }
-}
-
-// Those of one with its indirect word at q and a block of so many words, from p to t.
-pub fn note_block(
-    recent: &mut [u8; 160],
-    depth: u8,
-    frame: Frame,
-    q: Pointer,
-    p: Pointer,
-    t: Pointer,
-    count: u16,
-)
-    ensures { registers_of recent.new ≡ renewed_all (registers_of recent.old) depth frame (made_read q ∷ made access.Read p count ∷ made access.Write t count ∷ []) }
-{
-    note_indirect(recent, depth, frame, q);
-    renew_run(recent, depth, frame, Access::Read, p, count);
-    renew_run(recent, depth, frame, Access::Write, t, count);
 }

@@ -12,10 +12,10 @@ use Rattle.references.specs.declared.flag.Flag.TheVariants as flag
 use Rattle.references.specs.declared.flag.Access.TheVariants as access
 use Rattle.runs.specs.Run.{Ran}
 use Rattle.processor.specs.Calls.{stretch_of}
-use Rattle.isolation.specs.Visible.{by_static, passes, some_run, could_write, existing, place, word_at}
+use Rattle.isolation.specs.Visible.{by_static, by_live, could_write, existing, place, word_at}
 use Rattle.isolation.specs.Isolation.{Unchanged}
 use Rattle.isolation.proofs.Or.{either}
-use Rattle.isolation.proofs.Hidden.{static-there, passes-there, run-there, differs}
+use Rattle.isolation.proofs.Hidden.{static-there, read-there, differs}
 use Rattle.isolation.proofs.Worked.{start, memory, called, computed, start-sound, called-sound, fits, zeros, enough}
 
 -- the claim of equal records, with another test of what the domain may see
@@ -26,25 +26,24 @@ SameRecord see =
     → (stretch_of limit m w).machine ≡ (stretch_of limit m v).machine
 
 -- without execute: the program itself may differ
-pub without-execute : SameRecord (λ m s k. some_run (passes m access.Read s) k) → ⊥
+pub without-execute : SameRecord (λ m s k. by_static m flag.Read s k || by_live m access.Read s k) → ⊥
 unfolding start memory bases_of base_of called
 without-execute claim =
     let c = computed 7 zeros in
     let e = claim start start-sound 100 (memory 5 7 zeros) (memory 6 7 zeros) (fits 5 7 zeros enough) (fits 6 7 zeros enough)
-    (differs (λ s k. some_run (passes start access.Read s) k) start (λ s. run-there start s (passes start access.Read s) (passes-there start s access.Read)) (memory 5 7 zeros) 0 0 0x0C000006 c.code.0 c.code.1) in
+    (differs (λ s k. by_static start flag.Read s k || by_live start access.Read s k) start (read-there start) (memory 5 7 zeros) 0 0 0x0C000006 c.code.0 c.code.1) in
     let q : ◌≡◌ {A = ℕ} 5 6 = ap (λ (x : Ran). x.machine.registers.a) (sym c.five) ∙ ap (λ (m : Machine). m.registers.a) e ∙ ap (λ (x : Ran). x.machine.registers.a) c.six in
     omega arith
 
 -- static rights only: what the called domain reads through the live frame may differ
-pub static_only : SameRecord (λ m s k. by_static m flag.Execute s k 1 || some_run (by_static m flag.Read s) k) → ⊥
+pub static_only : SameRecord (λ m s k. by_static m flag.Execute s k || by_static m flag.Read s k) → ⊥
 unfolding start memory bases_of base_of called
 static_only claim =
     let c = computed 7 zeros in
     let w = memory 5 7 zeros in
     let e = claim (called 5) called-sound 1 w (set w (place start 1 6) 6) (fits 5 7 zeros enough) (rw length-set (fits 5 7 zeros enough))
-    (differs (λ s k. by_static (called 5) flag.Execute s k 1 || some_run (by_static (called 5) flag.Read s) k) (called 5)
-    (λ s k. either (by_static (called 5) flag.Execute s k 1) (some_run (by_static (called 5) flag.Read s) k) (static-there (called 5) s flag.Execute k 1)
-    (run-there (called 5) s (by_static (called 5) flag.Read s) (static-there (called 5) s flag.Read) k))
+    (differs (λ s k. by_static (called 5) flag.Execute s k || by_static (called 5) flag.Read s k) (called 5)
+    (λ s k. either (by_static (called 5) flag.Execute s k) (by_static (called 5) flag.Read s k) (static-there (called 5) s k flag.Execute) (static-there (called 5) s k flag.Read))
     w 1 6 6 c.argument.0 c.argument.1) in
     let q : ◌≡◌ {A = ℕ} 0 6 = sym (c.loads 0) ∙ ap (λ (m : Machine). m.registers.a) e ∙ c.loads 6 in
     omega arith

@@ -1,7 +1,6 @@
 -- Memories that differ in one word only.
-use Prim.Native.Nat.{ℕ, ◌≤◌}
-use native.Mathlib.Omega.{arith}
-use mathlib.Core.Bool.{Bool, true, false}
+use Prim.Native.Nat.{ℕ}
+use mathlib.Core.Bool.{Bool, true, false, ◌||◌}
 use mathlib.Core.List.{List}
 use mathlib.Core.Path.{◌≡◌, sym, ◌∙◌}
 use borrow.Author.Tests.{eqb-true}
@@ -13,42 +12,31 @@ use Rattle.references.specs.declared.flag.Flag.{Flag}
 use Rattle.references.specs.declared.flag.Flag.TheVariants as flag
 use Rattle.references.specs.declared.flag.Access.{Access}
 use Rattle.references.specs.declared.flag.Access.TheVariants as access
-use Rattle.references.specs.Flag.{flag_of}
-use Rattle.references.specs.Static.{last_of}
-use Rattle.references.proofs.Passes.{never, static-exists, live-exists, exists-before}
-use Rattle.references.proofs.Runs.{last-is}
+use Rattle.references.proofs.Passes.{never, static-exists, live-exists}
 use Rattle.references.proofs.Places.{index-apart}
-use Rattle.isolation.specs.Visible.{by_static, by_live, passes, some_run, may_see, could_write, existing, place, word_at}
+use Rattle.isolation.specs.Visible.{by_static, by_live, may_see, could_write, existing, place, word_at}
 use Rattle.isolation.specs.Isolation.{Agree}
 use Rattle.isolation.proofs.Or.{either}
-use Rattle.isolation.proofs.Runs.{held}
 
-module _ (m : Machine) (s : ℕ) where
-  -- the last word of a run that passes a check exists
-  pub static-there : (f : Flag) (k n : ℕ) → by_static m f s k n ≡ true → existing m s (last_of k n) ≡ true
-  static-there f k n e = static-exists _ _ _ f s (last_of k n) (eqb-true _ _ e)
+module _ (m : Machine) (s k : ℕ) where
+  pub static-there : (f : Flag) → by_static m f s k ≡ true → existing m s k ≡ true
+  static-there f e = static-exists _ _ _ f s k (eqb-true _ _ e)
 
-  pub passes-there : (a : Access) (k n : ℕ) → passes m a s k n ≡ true → existing m s (last_of k n) ≡ true
-  passes-there a k n =
-      either (by_static m (flag_of a) s k n) (by_live m a s k n) (static-there (flag_of a) k n)
-      (λ e. live-exists m.layout.lengths m.layout.rights (in_use m.depth) (live_frame m.depth m.frames) a s k n (eqb-true _ _ e))
+  pub live-there : (a : Access) → by_live m a s k ≡ true → existing m s k ≡ true
+  live-there a e = live-exists m.layout.lengths m.layout.rights (in_use m.depth) (live_frame m.depth m.frames) a s k (eqb-true _ _ e)
 
-  -- and so does every word of it
-  pub run-there : (test : ℕ → ℕ → Bool) → ((k n : ℕ) → test k n ≡ true → existing m s (last_of k n) ≡ true) → (k : ℕ) → some_run test k ≡ true → existing m s k ≡ true
-  run-there test there k e =
-      let h = held test k e in
-      let before : k ≤ last_of h.first h.n = omega (arith, h.high, last-is h.first h.n h.least) in
-      exists-before m.layout.lengths s k (last_of h.first h.n) before (there h.first h.n h.passes)
+  pub read-there : (by_static m flag.Read s k || by_live m access.Read s k) ≡ true → existing m s k ≡ true
+  read-there = either (by_static m flag.Read s k) (by_live m access.Read s k) (static-there flag.Read) (live-there access.Read)
 
   -- a word that the domain may see exists
-  pub seen-there : (k : ℕ) → may_see m s k ≡ true → existing m s k ≡ true
+  pub seen-there : may_see m s k ≡ true → existing m s k ≡ true
   unfolding may_see
-  seen-there k = either (by_static m flag.Execute s k 1) _ (static-there flag.Execute k 1) (run-there (passes m access.Read s) (passes-there access.Read) k)
+  seen-there = either (by_static m flag.Execute s k) _ (static-there flag.Execute) read-there
 
   -- and so does one that it could write
-  pub written-there : (k : ℕ) → could_write m s k ≡ true → existing m s k ≡ true
+  pub written-there : could_write m s k ≡ true → existing m s k ≡ true
   unfolding could_write
-  written-there = run-there (passes m access.Write s) (passes-there access.Write)
+  written-there = either (by_static m flag.Write s k) (by_live m access.Write s k) (static-there flag.Write) (live-there access.Write)
 
 -- by any test that only existing words pass: another number in an existing word that does not pass it leaves all that do
 pub differs : (see : ℕ → ℕ → Bool) (m : Machine) → ((s k : ℕ) → see s k ≡ true → existing m s k ≡ true)

@@ -1,7 +1,6 @@
 pub mod Or
-pub mod Runs
+pub mod Passed
 pub mod Sees
-pub mod Counts
 pub mod Hidden
 pub mod Stored
 pub mod Stretch
@@ -13,4 +12,3 @@ pub mod Main
 pub mod Corollaries
 pub mod Worked
 pub mod Counterexamples
-pub mod RunExample

@@ -1,5 +1,5 @@
 -- What stores leave in a memory: its length, and what each word holds after stores that the domain could make.
-use Prim.Native.Nat.{ℕ, suc, ◌+◌, ◌<◌, ◌≤◌}
+use Prim.Native.Nat.{ℕ, ◌≤◌}
 use native.Mathlib.Omega.{arith}
 use mathlib.Core.Bool.{Bool, true, false, ◌&&◌}
 use mathlib.Core.List.{List, [], ◌∷◌, ◌++◌}
@@ -8,16 +8,15 @@ use mathlib.Core.Path.{◌≡◌, refl, sym, ap, ◌∙◌}
 use borrow.Author.Tests.{eqb-true, eq-eqb}
 use lib.Dec.{eqb}
 use lib.ListN.{length, set, length-set}
-use lib.Seq.{get_or-set_same, get_or-set_other, sets}
+use lib.Seq.{get_or-set_same, get_or-set_other}
 use Rattle.words.specs.Answer.{if◌then◌else◌}
 use Rattle.state.specs.declared.record.Machine.{Machine}
 use Rattle.state.specs.Bases.{words_in}
 use Rattle.references.proofs.Passes.{never, both}
 use Rattle.references.proofs.Places.{index-lt, index-apart}
 use Rattle.isolation.specs.Visible.{could_write, existing, place, word_at}
-use Rattle.isolation.specs.Stores.{Store, stores_at, stored_all, is_in, later, received, Each}
+use Rattle.isolation.specs.Stores.{Store, stored_all, is_in, later, received, Each}
 use Rattle.isolation.specs.Isolation.{Writable}
-use Rattle.isolation.proofs.Hidden.{written-there}
 
 pub stored-length : (lengths w : List ℕ) (xs : List Store) → length (stored_all lengths w xs) ≡ length w
 unfolding stored_all
@@ -34,23 +33,6 @@ pub each_on : (P : Store → Type 0) (xs ys : List Store) → Each P xs → Each
 unfolding Each
 each_on P [] ys h g = g
 each_on P (a ∷ more) ys h g = (h.0, each_on P more ys h.1 g)
-
--- the stores of a run: all are made at once, and each is in a word that the domain could write
-module _ (m : Machine) (s : ℕ) where
-  pub stored-run : (zs : List ℕ) (k : ℕ) (w : List ℕ) → stored_all m.layout.lengths w (stores_at s k zs) ≡ sets w (place m s k) zs
-  unfolding stored_all
-  stored-run [] k w = refl
-  stored-run (z ∷ zs) k w =
-      let x = set w (place m s k) z in
-      let next : place m s (suc k) ≡ suc (place m s k) = omega arith in
-      stored-run zs (suc k) x ∙ ap (λ (i : ℕ). sets x i zs) next
-
-  pub each-run : (zs : List ℕ) (k : ℕ) → ((j : ℕ) → k ≤ j → j < k + length zs → could_write m s j ≡ true) → Each (Writable m) (stores_at s k zs)
-  unfolding Each
-  each-run [] k t = tt
-  each-run (z ∷ zs) k t =
-      let c = t k (omega arith) (omega arith) in
-      ((written-there m s k c, c), each-run zs (suc k) (λ j a b. t j (omega (arith, a)) (omega (arith, b))))
 
 -- the word that a store is in
 is-in : (s k : ℕ) (a : Store) → is_in s k a ≡ true → (s ≡ a.segment) × (k ≡ a.word)

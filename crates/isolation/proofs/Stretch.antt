@@ -1,11 +1,11 @@
--- Stretches of any instruction set: decide may be any function of the record, the fetched word and the readers that goes on with registers that fit.
+-- Stretches of any instruction set: decide may be any function of the record, the fetched word and the reader that goes on with registers that fit.
 use Prim.Native.Nat.{ℕ, zero, suc, ◌+◌}
 use mathlib.Core.Bool.{true}
 use mathlib.Core.List.{List, [], ◌++◌}
 use mathlib.Core.Path.{◌≡◌, refl}
 use Rattle.words.specs.Answer.{Answer, ◌>>=◌}
 use Rattle.state.specs.declared.record.Machine.{Machine}
-use Rattle.memory.specs.Reader.{Reader, RunReader, read_word, read_run, fetch}
+use Rattle.memory.specs.Reader.{Reader, read_word, fetch}
 use Rattle.runs.specs.Step.{Act, Done, decide, commit, execute}
 use Rattle.runs.specs.Run.{Ran, ran, spent, after, run_from}
 use Rattle.executions.proofs.Says.{Says}
@@ -13,16 +13,16 @@ use Rattle.executions.proofs.Fit.{Fit, GoesFit, decide-fits}
 use Rattle.isolation.specs.Stores.{Store, stores_by, stores_after, stores_of}
 
 -- where the registers of the record fit its frames, so do those that an instruction goes on with
-abbrev pub GoesOn : (Machine → Answer ℕ → Reader → RunReader → Answer Act) → Type 0
-GoesOn decide = (m : Machine) → Fit m → (fetched : Answer ℕ) (read : Reader) (run : RunReader) → Says (GoesFit m) (decide m fetched read run)
+abbrev pub GoesOn : (Machine → Answer ℕ → Reader → Answer Act) → Type 0
+GoesOn decide = (m : Machine) → Fit m → (fetched : Answer ℕ) (read : Reader) → Says (GoesFit m) (decide m fetched read)
 
-module _ (decide : Machine → Answer ℕ → Reader → RunReader → Answer Act) where
+module _ (decide : Machine → Answer ℕ → Reader → Answer Act) where
   abbrev pub execute_with : Machine → List ℕ → Answer Done
-  execute_with m words = decide m (fetch m words) (read_word m words) (read_run m words) >>= commit m words
+  execute_with m words = decide m (fetch m words) (read_word m words) >>= commit m words
 
   -- what an instruction stores
   abbrev pub made_with : Machine → List ℕ → List Store
-  made_with m words = stores_by m (decide m (fetch m words) (read_word m words) (read_run m words))
+  made_with m words = stores_by m (decide m (fetch m words) (read_word m words))
 
   unfoldable pub stretch_with : ℕ → ℕ → Machine → List ℕ → Ran
   stretch_with zero n m words = ran m words n spent

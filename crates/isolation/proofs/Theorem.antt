@@ -7,7 +7,7 @@ use lib.ListN.{length}
 use Rattle.words.specs.Answer.{Answer}
 use Rattle.state.specs.declared.record.Machine.{Machine}
 use Rattle.state.specs.Bases.{words_in}
-use Rattle.memory.specs.Reader.{Reader, RunReader}
+use Rattle.memory.specs.Reader.{Reader}
 use Rattle.runs.specs.Step.{Act, Done, moved_to, decide}
 use Rattle.runs.specs.Run.{halted, spent, crossed, faulted, after}
 use Rattle.processor.specs.Calls.{stretch_of}
@@ -18,7 +18,7 @@ use Rattle.isolation.proofs.Stretch.{GoesOn, goes_on, stretch_with, stretch-is, 
 use Rattle.isolation.proofs.Twins.{Cases, twins}
 use Rattle.isolation.proofs.Alike.{Ready, Alike, ends, ready_on, alike-on, isolated}
 
-module _ (decide : Machine → Answer ℕ → Reader → RunReader → Answer Act) (goes : GoesOn decide) where
+module _ (decide : Machine → Answer ℕ → Reader → Answer Act) (goes : GoesOn decide) where
   -- what is claimed of at most k instructions more, c completed so far
   abbrev Holds : ℕ → ℕ → Type 0
   Holds k c =
@@ -38,7 +38,7 @@ module _ (decide : Machine → Answer ℕ → Reader → RunReader → Answer Ac
       stops = ends m w v m (c + 1) halted;
       moves = λ a s o ps rs h made all.
           alike-on m a s o ps rs h made all w v _ _ _ _ (rest (moved_to m a s o ps rs) _ _ (ready_on m a s o ps rs h made all w v r));
-      crosses = λ fetched read run n e. ends m w v n (c + 1) crossed;
+      crosses = λ fetched read n e. ends m w v n (c + 1) crossed;
     }
 
   pub isolates : (k c : ℕ) → Holds k c

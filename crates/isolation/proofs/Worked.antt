@@ -26,9 +26,9 @@ use Rattle.references.specs.declared.flag.Access.TheVariants as access
 use Rattle.references.specs.Flag.{has}
 use Rattle.references.specs.Static.{exists, rights_of, static_of}
 use Rattle.capabilities.specs.Search.{covers_of, first_of}
-use Rattle.references.specs.Live.{live_match, live_run, live_run_through}
-use Rattle.references.specs.Reference.{verdict_run, locate_of, reference_run}
-use Rattle.references.specs.Check.{check_run}
+use Rattle.references.specs.Live.{live_match, live_of, live_through}
+use Rattle.references.specs.Reference.{verdict_of, locate_of, reference_of}
+use Rattle.references.specs.Check.{check}
 use Rattle.references.specs.Made.{renewed, renewed_all}
 use Rattle.memory.specs.Reader.{read_of, fetch_of, read_word, fetch}
 use Rattle.addressing.specs.Effective.{displaced_by, through_of, effective_of}
@@ -40,14 +40,14 @@ use Rattle.crossings.specs.Crossing.{called_recent, entered, enter_of}
 use Rattle.runs.specs.Step.{recent_after, decide, commit, execute}
 use Rattle.runs.specs.Run.{ran, crossed, run_from}
 use Rattle.processor.specs.Calls.{stretch_of}
-use Rattle.isolation.specs.Visible.{by_static, passes, any_below, some_run, may_see, could_write, existing, place, word_at}
+use Rattle.isolation.specs.Visible.{by_static, by_live, may_see, could_write, existing, place, word_at}
 use Rattle.isolation.specs.Stores.{stores_of}
 use Rattle.isolation.specs.Isolation.{Agree, Isolated}
 use Rattle.isolation.proofs.Hidden.{hidden-agrees}
 use Rattle.isolation.proofs.Main.{isolation}
 
 -- a row of n numbers that begins as given and goes on with zeros
-abbrev pub row : ℕ → List ℕ → List ℕ
+abbrev row : ℕ → List ℕ → List ℕ
 row n xs = xs ++ replicate (n - length xs) 0
 
 -- domain 0 executes segment 0, reads and writes segment 1, may call the gate in segment 2 and writes segment 3, which it may not read;
@@ -123,18 +123,18 @@ pub record Computed (hidden : ℕ) (rest : List ℕ) : Type 0 where
   pub secret : (existing start 3 0 ≡ true) × (may_see start 3 0 ≡ false)
   pub covered : (existing start 3 1 ≡ true) × (may_see start 3 1 ≡ false)
   pub writable : could_write start 3 1 ≡ true
-  pub code : (existing start 0 0 ≡ true) × (some_run (passes start access.Read 0) 0 ≡ false)
+  pub code : (existing start 0 0 ≡ true) × ((by_static start flag.Read 0 0 || by_live start access.Read 0 0) ≡ false)
   -- domain 1 has no static rights on its argument, nor W by the live frame
-  pub argument : (existing start 1 6 ≡ true) × ((by_static (called 5) flag.Execute 1 6 1 || some_run (by_static (called 5) flag.Read 1) 6) ≡ false)
+  pub argument : (existing start 1 6 ≡ true) × ((by_static (called 5) flag.Execute 1 6 || by_static (called 5) flag.Read 1 6) ≡ false)
   pub unwritable : could_write (called 5) 1 6 ≡ false
   pub written : word_at start (after 5 hidden rest) 1 6 ≡ 5
 
 pub computed : (hidden : ℕ) (rest : List ℕ) → Computed hidden rest
 unfolding field common signed_of displaced_of literal_of pointer_of instruction_of mode_of base_of bases_of has exists rights_of static_of covers_of first_of yields
-    all_yield filled listed held_of found_of live_match live_run live_run_through verdict_run locate_of reference_run check_run renewed renewed_all read_of fetch_of read_word fetch
+    all_yield filled listed held_of found_of live_match live_of live_through verdict_of locate_of reference_of check renewed renewed_all read_of fetch_of read_word fetch
     displaced_by through_of effective_of jump_check call_way load_of branch_of call_of is_load is_store value_of taken_of effect_of execute_of plan_of jump_of return_of
     indirect_place made_at made_by list_word list_pointer source_of capability_of argument_of arguments_from frame_after frame_of called_recent entered enter_of
-    recent_after decide commit execute run_from stores_of any_below may_see could_write start memory called
+    recent_after decide commit execute run_from stores_of may_see could_write start memory called
 computed hidden rest = record {
   five = refl;
   six = refl;

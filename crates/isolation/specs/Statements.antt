@@ -1,19 +1,13 @@
--- The isolation theorem and what follows from it, and what counts as visible and writable; the proofs stand in
--- proofs/Main.antt, proofs/Corollaries.antt and proofs/Counts.antt.
-use Rattle.std.specs.Prelude.{ℕ, ◌+◌, ◌<◌, ◌≤◌, true, false, List, ◌⊎◌, ◌≡◌, get_or, length, set, take}
-use Rattle.words.specs.Answer.{ok}
-use Rattle.words.specs.declared.pointer.Pointer.{Pointer}
+-- The isolation theorem and what follows from it; the proofs stand in proofs/Main.antt and proofs/Corollaries.antt.
+use Rattle.std.specs.Prelude.{ℕ, ◌≤◌, true, false, List, ◌≡◌, get_or, length, set, take}
 use Rattle.state.specs.declared.record.Machine.{Machine}
 use Rattle.state.specs.Record.{no_capability, live_frame}
 use Rattle.state.specs.Bases.{words_in}
 use Rattle.recent.specs.SoundRegisters.{recent_test}
 use Rattle.soundness.specs.Sound.{sound_test}
 use Rattle.references.specs.declared.flag.Flag.TheVariants as flag
-use Rattle.references.specs.declared.flag.Access.{Access}
-use Rattle.references.specs.declared.flag.Access.TheVariants as access
 use Rattle.references.specs.Flag.{has}
-use Rattle.references.specs.Static.{rights_of, static_of}
-use Rattle.references.specs.Check.{check_run}
+use Rattle.references.specs.Static.{rights_of}
 use Rattle.runs.specs.Run.{crossed, judged}
 use Rattle.processor.specs.Calls.{run_of, stretch_of, stretch_call}
 use Rattle.executions.specs.Called.{steps_called}
@@ -81,28 +75,3 @@ abbrev pub ReadOnly : Type 0
 ReadOnly =
     (m : Machine) (limit : ℕ) (w : List ℕ) → words_in m.layout.lengths ≤ 8192 → RegistersSound m → 8192 ≤ length w
     → NoWrite m → NoLiveWrite m → (s k : ℕ) → existing m s k ≡ true → Unchanged m w (stretch_of limit m w) s k
-
--- a reference to a run of 1 to 64 words that holds word k of segment s, and that passes its check
-pub record PassingRun (m : Machine) (access : Access) (s k : ℕ) : Type 0 where
-  pub pointer : Pointer
-  pub n : ℕ
-  pub index : ℕ
-  pub least : 1 ≤ n
-  pub most : n ≤ 64
-  pub segment : pointer.segment ≡ s
-  pub low : pointer.word ≤ k
-  pub high : k < pointer.word + n
-  pub passes : check_run m access pointer n ≡ ok index
-
--- a word counts as visible exactly where the executing domain may execute it, or where some run that holds it would pass for reading
-abbrev pub CountsAsVisible : Type 0
-CountsAsVisible =
-    (m : Machine) → sound_test m ≡ true → (s k : ℕ)
-    → let E = static_of m.layout.lengths m.layout.rights m.registers.domain flag.Execute s k ≡ 0 in
-    (may_see m s k ≡ true → E ⊎ PassingRun m access.Read s k) × (E ⊎ PassingRun m access.Read s k → may_see m s k ≡ true)
-
--- and as writable exactly where some run that holds it would pass for writing
-abbrev pub CountsAsWritable : Type 0
-CountsAsWritable =
-    (m : Machine) → sound_test m ≡ true → (s k : ℕ)
-    → (could_write m s k ≡ true → PassingRun m access.Write s k) × (PassingRun m access.Write s k → could_write m s k ≡ true)

@@ -1,14 +1,14 @@
 -- What a stretch stores: the numbers that words receive, in order.
-use Rattle.std.specs.Prelude.{ℕ, zero, suc, Bool, ◌&&◌, List, [], ◌∷◌, ◌++◌, eqb, length, set}
+use Rattle.std.specs.Prelude.{ℕ, zero, suc, Bool, ◌&&◌, List, [], ◌∷◌, ◌++◌, eqb, set}
 use Rattle.std.proofs.Math.Option.{Option, none, some}
 use Rattle.words.specs.Answer.{Answer, refuse, ok, if◌then◌else◌}
 use Rattle.words.specs.declared.pointer.Pointer.{Pointer}
 use Rattle.state.specs.declared.record.Machine.{Machine}
 use Rattle.state.specs.Bases.{bases_of}
 use Rattle.references.specs.declared.flag.Access.TheVariants as access
-use Rattle.references.specs.Check.{check_run}
+use Rattle.references.specs.Check.{check}
 use Rattle.references.specs.Reference.{index_of}
-use Rattle.memory.specs.Reader.{read_word, read_run, fetch}
+use Rattle.memory.specs.Reader.{read_word, fetch}
 use Rattle.runs.specs.Step.{Act, stop, proceed, put, cross, Completion, stopped, proceeded, crossing, Done, decide, execute}
 
 -- a store: a word, by segment and word number, receives a number
@@ -17,22 +17,17 @@ pub record Store : Type 0 where
   pub word : ℕ
   pub value : ℕ
 
--- words from word up receive numbers, one each
-abbrev pub stores_at : ℕ → ℕ → List ℕ → List Store
-stores_at segment word [] = []
-stores_at segment word (z ∷ zs) = record { segment = segment; word = word; value = z } ∷ stores_at segment (suc word) zs
-
 -- through a pointer, by the answer of its check for W
-abbrev pub stores_through : Pointer → List ℕ → Answer ℕ → List Store
-stores_through p zs (refuse n) = []
-stores_through p zs (ok i) = stores_at p.segment p.word zs
+abbrev pub stores_through : Pointer → ℕ → Answer ℕ → List Store
+stores_through p z (refuse n) = []
+stores_through p z (ok i) = record { segment = p.segment; word = p.word; value = z } ∷ []
 
 -- by an instruction, as it is decided
 abbrev pub stores_by : Machine → Answer Act → List Store
 stores_by m (refuse n) = []
 stores_by m (ok stop) = []
 stores_by m (ok (proceed a segment word pointers recent)) = []
-stores_by m (ok (put p zs recent)) = stores_through p zs (check_run m access.Write p (length zs))
+stores_by m (ok (put p z recent)) = stores_through p z (check m access.Write p)
 stores_by m (ok (cross n)) = []
 
 -- by what follows a completed instruction: HALT and a crossing end a stretch
@@ -49,7 +44,7 @@ stores_after go (ok d) = stores_on (go d.machine d.words) d.completion
 -- by a stretch of at most so many instructions, in order
 unfoldable pub stores_of : ℕ → Machine → List ℕ → List Store
 stores_of zero m words = []
-stores_of (suc k) m words = stores_by m (decide m (fetch m words) (read_word m words) (read_run m words)) ++ stores_after (stores_of k) (execute m words)
+stores_of (suc k) m words = stores_by m (decide m (fetch m words) (read_word m words)) ++ stores_after (stores_of k) (execute m words)
 
 -- a memory with stores made in order, where the segments have these lengths
 unfoldable pub stored_all : List ℕ → List ℕ → List Store → List ℕ

@@ -30,22 +30,22 @@ module _ (depth : ℕ) (fits : Capability → Bool) (cs : List Capability) (rs :
       ap (λ (b : Bool). if b then with_entry c depth rs else rs) m
 
 -- a reference
-module _ (rs : List Register) (depth : ℕ) (frame : Frame) (segment word n : ℕ) (read : Bool) where
+module _ (rs : List Register) (depth : ℕ) (frame : Frame) (segment word : ℕ) (read : Bool) where
   abbrev fits : Capability → Bool
-  fits = covers_of segment word n read (not read)
+  fits = covers_of segment word 1 read (not read)
 
-  pub refer-none : depth ≡ 0 → referred_to rs depth frame segment word n read ≡ rs
+  pub refer-none : depth ≡ 0 → referred_to rs depth frame segment word read ≡ rs
   unfolding referred_to found_of
   refer-none e = rw (eq-eqb depth 0 e)
 
-  pub refer-held : (r : Register) → (depth ≡ 0 → ⊥) → held_of depth fits rs ≡ ok r → referred_to rs depth frame segment word n read ≡ touched r.recency rs
+  pub refer-held : (r : Register) → (depth ≡ 0 → ⊥) → held_of depth fits rs ≡ ok r → referred_to rs depth frame segment word read ≡ touched r.recency rs
   unfolding referred_to found_of
   refer-held r ne e = rw (ne_eqb depth 0 ne) (ap (λ (a : Answer Register). registers_after rs (by_held depth fits (capabilities_of frame) rs a)) e)
 
-  pub refer-searched : (k : ℕ) → (depth ≡ 0 → ⊥) → held_of depth fits rs ≡ refuse k
-      → referred_to rs depth frame segment word n read ≡ registers_after rs (searched depth fits (capabilities_of frame) rs)
+  pub refer-searched : (n : ℕ) → (depth ≡ 0 → ⊥) → held_of depth fits rs ≡ refuse n
+      → referred_to rs depth frame segment word read ≡ registers_after rs (searched depth fits (capabilities_of frame) rs)
   unfolding referred_to found_of
-  refer-searched k ne e = rw (ne_eqb depth 0 ne) (ap (λ (a : Answer Register). registers_after rs (by_held depth fits (capabilities_of frame) rs a)) e)
+  refer-searched n ne e = rw (ne_eqb depth 0 ne) (ap (λ (a : Answer Register). registers_after rs (by_held depth fits (capabilities_of frame) rs a)) e)
 
 -- what a lookup's place says
 pub place-held : (xs : List ℕ) (i : ℕ) (a : Answer Register) → held_answer xs i ≡ a → i < 16 → a ≡ ok (register_at xs i)

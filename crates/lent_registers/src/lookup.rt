@@ -8,34 +8,26 @@ ghost use Rattle.lent_registers.specs.Lent.{held_answer};
 use crate::cells::register_at;
 use capabilities::covers;
 
-// Whether register i holds a capability of the live frame that covers the words with the flag asked.
-fn is_held(
-    recent: &[u8; 160],
-    i: usize,
-    depth: u8,
-    segment: u8,
-    word: u16,
-    length: u16,
-    read: bool,
-) -> bool
+// Whether register i holds a capability of the live frame that covers the word with the flag asked.
+fn is_held(recent: &[u8; 160], i: usize, depth: u8, segment: u8, word: u16, read: bool) -> bool
     requires { i < 16 }
-    ensures { result ≡ holds depth (covers_of segment word length read (not read)) (register_at recent.now i) }
+    ensures { result ≡ holds depth (covers_of segment word 1 read (not read)) (register_at recent.now i) }
 {
     if recent[16 + i] != depth {
         return false;
     }
     let r = register_at(recent, i);
-    covers(r.capability, segment, word, length, read, !read)
+    covers(r.capability, segment, word, 1, read, !read)
 }
 
-// The place of the lowest register that holds a match for so many words; 16 where none does.
-pub fn held(recent: &[u8; 160], depth: u8, segment: u8, word: u16, length: u16, read: bool) -> usize
-    ensures result_value { held_answer recent.now result ≡ held_of depth (covers_of segment word length read (not read)) (registers_of recent.now) }
+// The place of the lowest register that holds a match; 16 where none does.
+pub fn held(recent: &[u8; 160], depth: u8, segment: u8, word: u16, read: bool) -> usize
+    ensures result_value { held_answer recent.now result ≡ held_of depth (covers_of segment word 1 read (not read)) (registers_of recent.now) }
     ensures upper_bound { result ≤ 16 }
 {
     let mut i = 0usize;
     while i < 16 {
-        if is_held(recent, i, depth, segment, word, length, read) {
+        if is_held(recent, i, depth, segment, word, read) {
             return i;
         }
         i += 1;

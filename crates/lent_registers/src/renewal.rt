@@ -193,66 +193,18 @@ fn search_frame(recent: &mut [u8], depth: u8, frame: Frame, segment: u8, word: u
 
 // A live reference to a word: a registered match rises, else the full search's match is entered if it may be.
 pub fn refer(recent: &mut [u8; 160], depth: u8, frame: Frame, segment: u8, word: u16, read: bool)
-    ensures { registers_of recent.new ≡ referred_to (registers_of recent.old) depth frame segment word 1 read }
+    ensures { registers_of recent.new ≡ referred_to (registers_of recent.old) depth frame segment word read }
 {
     if depth == 0 {
         return;
     }
-    let i = held(recent, depth, segment, word, 1, read);
+    let i = held(recent, depth, segment, word, read);
     if i < 16 {
         let old = recent[i];
         touch(recent, old);
         return;
     }
     search_frame(recent, depth, frame, segment, word, read);
-}
-
-// The same search for so many words.
-fn search_frame_run(
-    recent: &mut [u8],
-    depth: u8,
-    frame: Frame,
-    segment: u8,
-    word: u16,
-    count: u16,
-    read: bool,
-)
-    requires { length recent.old ≡ 160 }
-    ensures { registers_of recent.new ≡ registers_after (registers_of recent.old) (searched depth (covers_of segment word count read (not read)) (capabilities_of frame) (registers_of recent.old)) }
-{
-    let rows = frame.capabilities;
-    match search(rows, frame.count, segment, word, count, read, !read) {
-        CapabilityAnswer::Refused(_) => {}
-        CapabilityAnswer::Capability(c) => {
-            if may_enter(rows, frame.count, c) {
-                enter(recent, c, depth);
-            }
-        }
-    }
-}
-
-// A live reference to so many words. That to one is a function apart, which the compiler makes cheaper.
-pub fn refer_run(
-    recent: &mut [u8; 160],
-    depth: u8,
-    frame: Frame,
-    segment: u8,
-    word: u16,
-    count: u16,
-    read: bool,
-)
-    ensures { registers_of recent.new ≡ referred_to (registers_of recent.old) depth frame segment word count read }
-{
-    if depth == 0 {
-        return;
-    }
-    let k = held(recent, depth, segment, word, count, read);
-    if k < 16 {
-        let number = recent[k];
-        touch(recent, number);
-        return;
-    }
-    search_frame_run(recent, depth, frame, segment, word, count, read);
 }
 
 // Row n of a frame; past the ninth, nothing.

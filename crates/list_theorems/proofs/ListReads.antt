@@ -18,8 +18,8 @@ use Rattle.capabilities.specs.Search.{covers_of, first_of}
 use Rattle.references.specs.declared.flag.Flag.TheVariants as flag
 use Rattle.references.specs.declared.flag.Access.TheVariants as access
 use Rattle.references.specs.Static.{static_of}
-use Rattle.references.specs.Live.{live_match, sourced, live_run}
-use Rattle.references.specs.Reference.{index_of, accept, verdict_run, locate_of, reference_run}
+use Rattle.references.specs.Live.{live_match, sourced, live_of}
+use Rattle.references.specs.Reference.{index_of, accept, verdict_of, locate_of, reference_of}
 use Rattle.references.specs.Check.{static_check}
 use Rattle.memory.specs.Reader.{read_of, read_word}
 use Rattle.arguments.specs.ArgumentList.{list_capability}
@@ -78,8 +78,8 @@ module _ (m n : Machine) (words : List ℕ) (s : SoundRecord m) (c : CalledTo m 
       accept (sourced m.layout.lengths m.layout.rights access.Read at.segment at.word x) (index_of (bases_of m.layout.lengths) at.segment at.word) >>= (λ i. ok (get_or words i 0))
 
   searched : read_word n words at ≡ read_as (first_of fits (take (suc l.arguments) (live n).capabilities))
-  unfolding read_word read_of reference_run verdict_run live_run live_match
-  searched = rw (live_same n after access.Read at.segment at.word 1 (omega arith)) (simp (some, counted, (call_facts m n words c.gate c.made).layout))
+  unfolding read_word read_of reference_of verdict_of live_of live_match
+  searched = rw (live_same n after access.Read at.segment at.word) (simp (some, counted, (call_facts m n words c.gate c.made).layout))
 
   -- it is read by the rights of the source of what was found
   by-source : (d : Capability) → read_as (ok d) ≡ read_by words (static_check m d.source flag.Read at.segment at.word)

@@ -33,9 +33,9 @@ use Rattle.capabilities.specs.Search.{covers_of, first_of}
 use Rattle.references.specs.declared.flag.Flag.TheVariants as flag
 use Rattle.references.specs.Flag.{has}
 use Rattle.references.specs.Static.{exists, rights_of, static_of}
-use Rattle.references.specs.Live.{live_match, live_run_through, passed_of}
-use Rattle.references.specs.Reference.{verdict_run, locate_of, reference_run}
-use Rattle.references.specs.Check.{static_check, check_run}
+use Rattle.references.specs.Live.{live_match, live_through, passed_of}
+use Rattle.references.specs.Reference.{verdict_of, locate_of, reference_of}
+use Rattle.references.specs.Check.{static_check, check}
 use Rattle.references.specs.Made.{renewed, renewed_all}
 use Rattle.memory.specs.Reader.{read_of, fetch_of, read_word, fetch}
 use Rattle.addressing.specs.Effective.{displaced_by, through_of, effective_of}
@@ -184,8 +184,8 @@ pub record Computed (rest : List ℕ) : Type 0 where
 pub computed : (rest : List ℕ) → Computed rest
 unfolding field common sum_of signed_of displaced_of pointer_word pointer_of instruction_of mode_of base_of bases_of fresh_of has exists rights_of static_of covers_of
     first_of
-    yields all_yield same may_enter risen touched filled order_of before cleared listed held_of found_of referred_to live_match live_run_through passed_of renewed renewed_all
-    verdict_run locate_of reference_run check_run read_of fetch_of read_word fetch displaced_by through_of effective_of jump_check call_way jump_of call_of return_of load_of is_load is_store value_of effect_of execute_of plan_of
+    yields all_yield same may_enter risen touched filled order_of before cleared listed held_of found_of referred_to live_match live_through passed_of renewed renewed_all
+    verdict_of locate_of reference_of check read_of fetch_of read_word fetch displaced_by through_of effective_of jump_check call_way jump_of call_of return_of load_of is_load is_store value_of effect_of execute_of plan_of
     indirect_place made_at made_by list_word list_pointer source_of capability_of argument_of arguments_from frame_after frame_of
     called_recent left_recent entered left enter_of leave_check leave_of recent_after decide commit execute run_from
     start memory relayed relaying called finished
@@ -200,15 +200,15 @@ sound = (refl, refl)
 
 calls : (rest : List ℕ) → CalledTo relaying (relayed rest) (called 0)
 unfolding field common signed_of displaced_of pointer_of instruction_of mode_of base_of bases_of has exists rights_of static_of covers_of first_of
-    yields all_yield same may_enter touched filled listed held_of found_of referred_to live_match live_run_through passed_of renewed renewed_all
-    verdict_run locate_of reference_run read_of fetch_of read_word fetch displaced_by through_of effective_of call_way call_of is_load is_store effect_of execute_of plan_of
+    yields all_yield same may_enter touched filled listed held_of found_of referred_to live_match live_through passed_of renewed renewed_all
+    verdict_of locate_of reference_of read_of fetch_of read_word fetch displaced_by through_of effective_of call_way call_of is_load is_store effect_of execute_of plan_of
     list_word list_pointer source_of capability_of argument_of arguments_from frame_after frame_of called_recent entered enter_of relayed relaying called
 calls rest = record { gate = record { word = 0; segment = 4; tag = false }; asked = refl; made = refl }
 
 -- C's list has two arguments, and its source is A: the capability that covers it is the first of B's frame
 list-of-c : (rest : List ℕ) (l : Listed relaying (relayed rest) (called 0)) → (l.arguments ≡ 2) × (l.source ≡ 0)
-unfolding field signed_of displaced_of base_of bases_of has exists rights_of static_of covers_of first_of held_of found_of live_match live_run_through verdict_run locate_of
-    reference_run read_of read_word displaced_by list_word relayed relaying called
+unfolding field signed_of displaced_of base_of bases_of has exists rights_of static_of covers_of first_of held_of found_of live_match live_through verdict_of locate_of
+    reference_of read_of read_word displaced_by list_word relayed relaying called
 list-of-c rest l = (two, first l.arguments two l.source l.whose)
   where
     two : l.arguments ≡ 2

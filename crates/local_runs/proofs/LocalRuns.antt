@@ -1,22 +1,20 @@
 -- The loop of a local run, against its definition.
 use Prim.Native.Nat.{ℕ, suc, ◌+◌, ◌-◌, ◌<◌, ◌≤◌}
 use native.Mathlib.Omega.{arith}
-use mathlib.Core.List.{List, [], ◌∷◌}
+use mathlib.Core.List.{List}
 use mathlib.Core.Path.{◌≡◌, refl, sym, ap, ◌∙◌}
-use lib.ListN.{length, set}
-use lib.Seq.{sets, length-sets}
+use lib.ListN.{length, set, length-set}
 use Rattle.words.specs.Answer.{Answer, refuse, ok, ◌>>=◌}
 use Rattle.words.specs.declared.pointer.Pointer.{Pointer}
 use Rattle.state.specs.declared.record.Frame.{Frame}
 use Rattle.state.specs.declared.record.Register.{Register}
 use Rattle.state.specs.declared.record.Registers.{Registers}
-use Rattle.references.specs.Reference.{reference_of, reference_run}
+use Rattle.references.specs.Reference.{reference_of}
 use Rattle.references.specs.declared.flag.Access.TheVariants as access
 use Rattle.instructions.specs.declared.cycle.Event.{Event}
 use Rattle.instructions.specs.declared.cycle.Event.TheVariants as event
-use Rattle.memory.specs.Reader.{read_run_of, stored, written_run}
-use Rattle.blocks.specs.Block.{copied_of, words_after}
-use Rattle.instructions.specs.Plan.{Plan, halt, move, store, copy, enter, leave}
+use Rattle.memory.specs.Reader.{stored, written_of}
+use Rattle.instructions.specs.Plan.{Plan, halt, move, store, enter, leave}
 use Rattle.instructions.specs.Cycle.{Progress, moved, event_answer, settled_words, planned, cycle_of, cycle_words, cycle_recent}
 use Rattle.local_runs.specs.LocalRun.{Paused, paused, after_cycle, local_from}
 
@@ -37,28 +35,17 @@ stops (event.Entering p) m o = tt
 stops (event.Leaving p q) m o = tt
 stops (event.Faulted f) m o = tt
 
-stored-length : (words vs : List ℕ) (i : Answer ℕ) → length (stored words vs i) ≡ length words
-stored-length words vs (refuse n) = refl
-stored-length words vs (ok i) = length-sets words i vs
-
-copied-length : (words : List ℕ) (x : Answer (List ℕ)) (y : List ℕ → Answer ℕ) → length (words_after words (x >>= (λ vs. y vs >>= (λ i. ok (sets words i vs))))) ≡ length words
-copied-length words (refuse n) y = refl
-copied-length words (ok vs) y = by (y vs)
-  where
-    by : (i : Answer ℕ) → length (words_after words (i >>= (λ j. ok (sets words j vs)))) ≡ length words
-    by (refuse n) = refl
-    by (ok i) = length-sets words i vs
+stored-length : (words : List ℕ) (v : ℕ) (i : Answer ℕ) → length (stored words v i) ≡ length words
+stored-length words v (refuse n) = refl
+stored-length words v (ok i) = length-set words i v
 
 module _ (lengths gates rights stacks bases : List ℕ) (depth : ℕ) (frame : Frame) where
   settled-length : (words : List ℕ) (recent : List Register) (r : Registers) (pointers : List Pointer) (plan : Answer Plan) → length (settled_words lengths rights bases words recent depth frame r pointers plan) ≡ length words
-  unfolding written_run copied_of
+  unfolding written_of
   settled-length words recent r pointers (refuse n) = refl
   settled-length words recent r pointers (ok halt) = refl
   settled-length words recent r pointers (ok (move a s w ps)) = refl
-  settled-length words recent r pointers (ok (store p v)) = stored-length words (v ∷ []) (reference_of lengths rights bases r.domain recent depth frame access.Write p)
-  settled-length words recent r pointers (ok (copy p t n)) =
-      copied-length words (read_run_of lengths rights bases words r.domain recent depth frame p n)
-      (λ vs. reference_run lengths rights bases r.domain recent depth frame access.Write t (length vs))
+  settled-length words recent r pointers (ok (store p v)) = stored-length words v (reference_of lengths rights bases r.domain recent depth frame access.Write p)
   settled-length words recent r pointers (ok (enter p)) = refl
   settled-length words recent r pointers (ok (leave p)) = refl
 

@@ -4,10 +4,10 @@ ghost use Rattle.references.specs.Reference.{verdict_of};
 ghost use Rattle.references.specs.declared.flag.Access.TheVariants as access;
 ghost use Rattle.lent_registers.specs.Columns.{registers_of};
 ghost use Rattle.memory.specs.Reader.{read_of, fetch_of, written_of, word_answer};
+ghost use Rattle.state.specs.Record.{of_segment};
 
 use references::flag::{Access, Flag};
 use references::reference::{IndexAnswer, locate, reference};
-use references::statics::length_of;
 use state::record::Frame;
 use words::pointer::Pointer;
 
@@ -18,15 +18,13 @@ pub enum WordAnswer {
     Refused(u8),
 }
 
-// The word at an index; 0 past the end.
-pub fn word_at(words: &[u32], i: usize) -> u32
+fn word_at(words: &[u32], i: usize) -> u32
     ensures { result ≡ get_or words.now i 0 }
 {
     if i < words.len() { words[i] } else { 0 }
 }
 
-// A word stored at an index; nothing past the end.
-pub fn put_at(words: &mut [u32], i: usize, value: u32)
+fn put_at(words: &mut [u32], i: usize, value: u32)
     ensures { words.new ≡ set words.old i value }
 {
     if i < words.len() {
@@ -97,6 +95,17 @@ pub fn write<'a>(
             0
         }
     }
+}
+
+// The length of a segment; 0 past the sixteenth.
+fn length_of(lengths: &[u16; 16], segment: u8) -> u16
+    ensures { result ≡ of_segment lengths.now segment }
+{
+    if 16 <= segment {
+        return 0;
+    }
+    let i = segment as usize;
+    lengths[i]
 }
 
 // The word at the location, fetched as an instruction. There is a word number after one that exists.

@@ -27,24 +27,23 @@ use Rattle.recent.specs.Entering.{shares, yields, all_yield, same as same-capabi
 use Rattle.recent.specs.Registers.{risen, touched, with_entry as filled, order_of, before, cleared, listed}
 use Rattle.recent.specs.Found.{held_of, found_of, referred_to}
 use Rattle.recent.specs.SoundRegisters.{absent, numbers_test, register_test, contents_test, recent_test}
-use Rattle.references.specs.Live.{live_match, live_run, live_run_through, passed_of}
+use Rattle.references.specs.Live.{live_match, live_of, live_through, passed_of}
 use Rattle.references.specs.Made.{renewed, renewed_all}
 use Rattle.instructions.specs.Made.{indirect_place, made_at, made_by}
-use Rattle.references.specs.Reference.{verdict_run, locate_of, reference_run}
-use Rattle.references.specs.Check.{static_check, check_run}
+use Rattle.references.specs.Reference.{verdict_of, locate_of, reference_of}
+use Rattle.references.specs.Check.{static_check, check}
 use Rattle.record_checks.specs.Judged.{judged_static, judged_check}
-use Rattle.memory.specs.Reader.{read_of, words_from, read_run_of, fetch_of, read_word, read_run, fetch}
-use Rattle.blocks.specs.Block.{block_check}
+use Rattle.memory.specs.Reader.{read_of, fetch_of, read_word, fetch}
 use Rattle.addressing.specs.Effective.{displaced_by, through_of, effective_of}
 use Rattle.transfers.specs.Transfer.{jump_check, call_way}
-use Rattle.instructions.specs.Instruction.{jump_of, call_of, return_of, load_of, branch_of, move_of, is_load, is_store, value_of, taken_of, effect_of, execute_of, plan_of}
+use Rattle.instructions.specs.Instruction.{jump_of, call_of, return_of, load_of, branch_of, is_load, is_store, value_of, taken_of, effect_of, execute_of, plan_of}
 use Rattle.arguments.specs.ArgumentList.{list_word, source_of, capability_of, list_pointer, argument_of, arguments_from, frame_after, frame_of}
 use Rattle.crossings.specs.Crossing.{entered, left, enter_of, leave_check, leave_of, called_recent, left_recent}
 use Rattle.runs.specs.Step.{decide, commit, execute, recent_after}
 use Rattle.runs.specs.Run.{run_from, judged, called_of}
 use Rattle.processor.specs.Calls.{run_call}
 use Rattle.segments.specs.Segment.{segment_check}
-use Rattle.isolation.specs.Visible.{any_below, may_see, could_write}
+use Rattle.isolation.specs.Visible.{may_see, could_write}
 use Rattle.readings.specs.Question.{answer, Row}
 use Rattle.readings.specs.Table.{table}
 use Rattle.readings.specs.Statements.{Readings}
@@ -105,86 +104,86 @@ split (suc n) (r ∷ rs) e f =
 
 -- the test, computed a hundred rows at a time: the checker bounds what one computation may take
 first : hold (take 100 table) ≡ true
-unfolding shares yields all_yield same-capability may_enter risen touched filled order_of before cleared listed held_of found_of referred_to absent numbers_test register_test contents_test recent_test live_run_through renewed renewed_all
+unfolding shares yields all_yield same-capability may_enter risen touched filled order_of before cleared listed held_of found_of referred_to absent numbers_test register_test contents_test recent_test live_through renewed renewed_all
     indirect_place made_at made_by recent_after called_recent left_recent field common pointer_word pointer_of signed_of displaced_of literal_of instruction_of
     base_of bases_of fresh_of all_from segment_test stack_test rights_test start_test gate_test gates_test ranges_test layout_test registers_test pointer_test pointers_test
     capability_test empty_capability empty_pointer empty_frame frame_test frames_test sound_test
-    has exists rights_of static_of covers_of first_of live_match live_run passed_of verdict_run locate_of reference_run static_check check_run judged_static judged_check
-    any_below may_see could_write segment_check
-    sum_of difference_of read_of fetch_of read_word fetch words_from read_run_of read_run displaced_by through_of effective_of
-    block_check move_of jump_check call_way jump_of call_of return_of load_of branch_of is_load is_store value_of taken_of effect_of execute_of plan_of mode_of list_word source_of capability_of list_pointer argument_of arguments_from frame_after frame_of
+    has exists rights_of static_of covers_of first_of live_match live_of passed_of verdict_of locate_of reference_of static_check check judged_static judged_check
+    may_see could_write segment_check
+    sum_of difference_of read_of fetch_of read_word fetch displaced_by through_of effective_of
+    jump_check call_way jump_of call_of return_of load_of branch_of is_load is_store value_of taken_of effect_of execute_of plan_of mode_of list_word source_of capability_of list_pointer argument_of arguments_from frame_after frame_of
     entered left enter_of leave_check leave_of decide commit execute run_from judged called_of run_call
 first = refl
 
 second : hold (take 100 (drop 100 table)) ≡ true
-unfolding shares yields all_yield same-capability may_enter risen touched filled order_of before cleared listed held_of found_of referred_to absent numbers_test register_test contents_test recent_test live_run_through renewed renewed_all
+unfolding shares yields all_yield same-capability may_enter risen touched filled order_of before cleared listed held_of found_of referred_to absent numbers_test register_test contents_test recent_test live_through renewed renewed_all
     indirect_place made_at made_by recent_after called_recent left_recent field common pointer_word pointer_of signed_of displaced_of literal_of instruction_of
     base_of bases_of fresh_of all_from segment_test stack_test rights_test start_test gate_test gates_test ranges_test layout_test registers_test pointer_test pointers_test
     capability_test empty_capability empty_pointer empty_frame frame_test frames_test sound_test
-    has exists rights_of static_of covers_of first_of live_match live_run passed_of verdict_run locate_of reference_run static_check check_run judged_static judged_check
-    any_below may_see could_write segment_check
-    sum_of difference_of read_of fetch_of read_word fetch words_from read_run_of read_run displaced_by through_of effective_of
-    block_check move_of jump_check call_way jump_of call_of return_of load_of branch_of is_load is_store value_of taken_of effect_of execute_of plan_of mode_of list_word source_of capability_of list_pointer argument_of arguments_from frame_after frame_of
+    has exists rights_of static_of covers_of first_of live_match live_of passed_of verdict_of locate_of reference_of static_check check judged_static judged_check
+    may_see could_write segment_check
+    sum_of difference_of read_of fetch_of read_word fetch displaced_by through_of effective_of
+    jump_check call_way jump_of call_of return_of load_of branch_of is_load is_store value_of taken_of effect_of execute_of plan_of mode_of list_word source_of capability_of list_pointer argument_of arguments_from frame_after frame_of
     entered left enter_of leave_check leave_of decide commit execute run_from judged called_of run_call
 second = refl
 
 third : hold (take 100 (drop 200 table)) ≡ true
-unfolding shares yields all_yield same-capability may_enter risen touched filled order_of before cleared listed held_of found_of referred_to absent numbers_test register_test contents_test recent_test live_run_through renewed renewed_all
+unfolding shares yields all_yield same-capability may_enter risen touched filled order_of before cleared listed held_of found_of referred_to absent numbers_test register_test contents_test recent_test live_through renewed renewed_all
     indirect_place made_at made_by recent_after called_recent left_recent field common pointer_word pointer_of signed_of displaced_of literal_of instruction_of
     base_of bases_of fresh_of all_from segment_test stack_test rights_test start_test gate_test gates_test ranges_test layout_test registers_test pointer_test pointers_test
     capability_test empty_capability empty_pointer empty_frame frame_test frames_test sound_test
-    has exists rights_of static_of covers_of first_of live_match live_run passed_of verdict_run locate_of reference_run static_check check_run judged_static judged_check
-    any_below may_see could_write segment_check
-    sum_of difference_of read_of fetch_of read_word fetch words_from read_run_of read_run displaced_by through_of effective_of
-    block_check move_of jump_check call_way jump_of call_of return_of load_of branch_of is_load is_store value_of taken_of effect_of execute_of plan_of mode_of list_word source_of capability_of list_pointer argument_of arguments_from frame_after frame_of
+    has exists rights_of static_of covers_of first_of live_match live_of passed_of verdict_of locate_of reference_of static_check check judged_static judged_check
+    may_see could_write segment_check
+    sum_of difference_of read_of fetch_of read_word fetch displaced_by through_of effective_of
+    jump_check call_way jump_of call_of return_of load_of branch_of is_load is_store value_of taken_of effect_of execute_of plan_of mode_of list_word source_of capability_of list_pointer argument_of arguments_from frame_after frame_of
     entered left enter_of leave_check leave_of decide commit execute run_from judged called_of run_call
 third = refl
 
 fourth : hold (take 100 (drop 300 table)) ≡ true
-unfolding shares yields all_yield same-capability may_enter risen touched filled order_of before cleared listed held_of found_of referred_to absent numbers_test register_test contents_test recent_test live_run_through renewed renewed_all
+unfolding shares yields all_yield same-capability may_enter risen touched filled order_of before cleared listed held_of found_of referred_to absent numbers_test register_test contents_test recent_test live_through renewed renewed_all
     indirect_place made_at made_by recent_after called_recent left_recent field common pointer_word pointer_of signed_of displaced_of literal_of instruction_of
     base_of bases_of fresh_of all_from segment_test stack_test rights_test start_test gate_test gates_test ranges_test layout_test registers_test pointer_test pointers_test
     capability_test empty_capability empty_pointer empty_frame frame_test frames_test sound_test
-    has exists rights_of static_of covers_of first_of live_match live_run passed_of verdict_run locate_of reference_run static_check check_run judged_static judged_check
-    any_below may_see could_write segment_check
-    sum_of difference_of read_of fetch_of read_word fetch words_from read_run_of read_run displaced_by through_of effective_of
-    block_check move_of jump_check call_way jump_of call_of return_of load_of branch_of is_load is_store value_of taken_of effect_of execute_of plan_of mode_of list_word source_of capability_of list_pointer argument_of arguments_from frame_after frame_of
+    has exists rights_of static_of covers_of first_of live_match live_of passed_of verdict_of locate_of reference_of static_check check judged_static judged_check
+    may_see could_write segment_check
+    sum_of difference_of read_of fetch_of read_word fetch displaced_by through_of effective_of
+    jump_check call_way jump_of call_of return_of load_of branch_of is_load is_store value_of taken_of effect_of execute_of plan_of mode_of list_word source_of capability_of list_pointer argument_of arguments_from frame_after frame_of
     entered left enter_of leave_check leave_of decide commit execute run_from judged called_of run_call
 fourth = refl
 
 fifth : hold (take 100 (drop 400 table)) ≡ true
-unfolding shares yields all_yield same-capability may_enter risen touched filled order_of before cleared listed held_of found_of referred_to absent numbers_test register_test contents_test recent_test live_run_through renewed renewed_all
+unfolding shares yields all_yield same-capability may_enter risen touched filled order_of before cleared listed held_of found_of referred_to absent numbers_test register_test contents_test recent_test live_through renewed renewed_all
     indirect_place made_at made_by recent_after called_recent left_recent field common pointer_word pointer_of signed_of displaced_of literal_of instruction_of
     base_of bases_of fresh_of all_from segment_test stack_test rights_test start_test gate_test gates_test ranges_test layout_test registers_test pointer_test pointers_test
     capability_test empty_capability empty_pointer empty_frame frame_test frames_test sound_test
-    has exists rights_of static_of covers_of first_of live_match live_run passed_of verdict_run locate_of reference_run static_check check_run judged_static judged_check
-    any_below may_see could_write segment_check
-    sum_of difference_of read_of fetch_of read_word fetch words_from read_run_of read_run displaced_by through_of effective_of
-    block_check move_of jump_check call_way jump_of call_of return_of load_of branch_of is_load is_store value_of taken_of effect_of execute_of plan_of mode_of list_word source_of capability_of list_pointer argument_of arguments_from frame_after frame_of
+    has exists rights_of static_of covers_of first_of live_match live_of passed_of verdict_of locate_of reference_of static_check check judged_static judged_check
+    may_see could_write segment_check
+    sum_of difference_of read_of fetch_of read_word fetch displaced_by through_of effective_of
+    jump_check call_way jump_of call_of return_of load_of branch_of is_load is_store value_of taken_of effect_of execute_of plan_of mode_of list_word source_of capability_of list_pointer argument_of arguments_from frame_after frame_of
     entered left enter_of leave_check leave_of decide commit execute run_from judged called_of run_call
 fifth = refl
 
 sixth : hold (take 100 (drop 500 table)) ≡ true
-unfolding shares yields all_yield same-capability may_enter risen touched filled order_of before cleared listed held_of found_of referred_to absent numbers_test register_test contents_test recent_test live_run_through renewed renewed_all
+unfolding shares yields all_yield same-capability may_enter risen touched filled order_of before cleared listed held_of found_of referred_to absent numbers_test register_test contents_test recent_test live_through renewed renewed_all
     indirect_place made_at made_by recent_after called_recent left_recent field common pointer_word pointer_of signed_of displaced_of literal_of instruction_of
     base_of bases_of fresh_of all_from segment_test stack_test rights_test start_test gate_test gates_test ranges_test layout_test registers_test pointer_test pointers_test
     capability_test empty_capability empty_pointer empty_frame frame_test frames_test sound_test
-    has exists rights_of static_of covers_of first_of live_match live_run passed_of verdict_run locate_of reference_run static_check check_run judged_static judged_check
-    any_below may_see could_write segment_check
-    sum_of difference_of read_of fetch_of read_word fetch words_from read_run_of read_run displaced_by through_of effective_of
-    block_check move_of jump_check call_way jump_of call_of return_of load_of branch_of is_load is_store value_of taken_of effect_of execute_of plan_of mode_of list_word source_of capability_of list_pointer argument_of arguments_from frame_after frame_of
+    has exists rights_of static_of covers_of first_of live_match live_of passed_of verdict_of locate_of reference_of static_check check judged_static judged_check
+    may_see could_write segment_check
+    sum_of difference_of read_of fetch_of read_word fetch displaced_by through_of effective_of
+    jump_check call_way jump_of call_of return_of load_of branch_of is_load is_store value_of taken_of effect_of execute_of plan_of mode_of list_word source_of capability_of list_pointer argument_of arguments_from frame_after frame_of
     entered left enter_of leave_check leave_of decide commit execute run_from judged called_of run_call
 sixth = refl
 
 rest : hold (drop 600 table) ≡ true
-unfolding shares yields all_yield same-capability may_enter risen touched filled order_of before cleared listed held_of found_of referred_to absent numbers_test register_test contents_test recent_test live_run_through renewed renewed_all
+unfolding shares yields all_yield same-capability may_enter risen touched filled order_of before cleared listed held_of found_of referred_to absent numbers_test register_test contents_test recent_test live_through renewed renewed_all
     indirect_place made_at made_by recent_after called_recent left_recent field common pointer_word pointer_of signed_of displaced_of literal_of instruction_of
     base_of bases_of fresh_of all_from segment_test stack_test rights_test start_test gate_test gates_test ranges_test layout_test registers_test pointer_test pointers_test
     capability_test empty_capability empty_pointer empty_frame frame_test frames_test sound_test
-    has exists rights_of static_of covers_of first_of live_match live_run passed_of verdict_run locate_of reference_run static_check check_run judged_static judged_check
-    any_below may_see could_write segment_check
-    sum_of difference_of read_of fetch_of read_word fetch words_from read_run_of read_run displaced_by through_of effective_of
-    block_check move_of jump_check call_way jump_of call_of return_of load_of branch_of is_load is_store value_of taken_of effect_of execute_of plan_of mode_of list_word source_of capability_of list_pointer argument_of arguments_from frame_after frame_of
+    has exists rights_of static_of covers_of first_of live_match live_of passed_of verdict_of locate_of reference_of static_check check judged_static judged_check
+    may_see could_write segment_check
+    sum_of difference_of read_of fetch_of read_word fetch displaced_by through_of effective_of
+    jump_check call_way jump_of call_of return_of load_of branch_of is_load is_store value_of taken_of effect_of execute_of plan_of mode_of list_word source_of capability_of list_pointer argument_of arguments_from frame_after frame_of
     entered left enter_of leave_check leave_of decide commit execute run_from judged called_of run_call
 rest = refl
 

@@ -79,10 +79,9 @@ handed_on_rows =
     (handing (read_on 2 4 3 2 ∷ []) (none 5) gives refuse 25) ∷
     (handing (read_on 2 7 1 2 ∷ read_on 2 4 5 1 ∷ []) (one 0x80002004) gives refuse 25) ∷
     (handing (read_on 2 8 1 2 ∷ read_on 2 4 5 1 ∷ []) (one 0x80002004) gives refuse 25) ∷
-    -- what a domain may see goes by the first match of a run: word 6 alone has one that fails, and with word 5 one that does not
+    -- so it is what a domain may see: by the first match
     (reaching (relay 4 (read_on 2 6 1 2 ∷ read_on 2 4 3 1 ∷ [])) 2 5 gives ok (1 ∷ 0 ∷ [])) ∷
-    (reaching (relay 4 (read_on 2 6 1 2 ∷ read_on 2 4 3 1 ∷ [])) 2 6 gives ok (1 ∷ 0 ∷ [])) ∷
-    (reaching (relay 4 (read_on 2 4 3 2 ∷ read_on 2 4 3 1 ∷ [])) 2 6 gives ok (0 ∷ 0 ∷ [])) ∷
+    (reaching (relay 4 (read_on 2 6 1 2 ∷ read_on 2 4 3 1 ∷ [])) 2 6 gives ok (0 ∷ 0 ∷ [])) ∷
     -- an argument of the list, here its word 0: passed on where its pointer is tagged, else the caller's own
     (loading (read_on 2 4 5 1 ∷ []) (one 0x80002004) 0x8003 gives ok (1 ∷ [])) ∷
     (loading (read_on 2 4 5 1 ∷ []) (one 0x00002004) 0x8003 gives refuse 25) ∷

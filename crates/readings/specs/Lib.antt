@@ -3,7 +3,6 @@ pub mod Change
 pub mod Question
 pub mod Word
 pub mod Effect
-pub mod Block
 pub mod Gate
 pub mod HandedOn
 pub mod Reach

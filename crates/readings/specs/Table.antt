@@ -5,7 +5,6 @@ use Rattle.readings.specs.Scene.{Scene, untagged_to, tagged_to, read_on, write_o
 use Rattle.readings.specs.Question.{Row, pointer, instruction, displace, reading, writing, passing, executing, ◌gives◌}
 use Rattle.readings.specs.Word.{word_rows}
 use Rattle.readings.specs.Effect.{effect_rows}
-use Rattle.readings.specs.Block.{block_rows}
 use Rattle.readings.specs.Gate.{call_on, gate_rows}
 use Rattle.readings.specs.HandedOn.{handed_on_rows}
 use Rattle.readings.specs.Reach.{reach_rows}
@@ -102,7 +101,6 @@ table =
     under_rights (λ r. writing (ten_words r) (untagged_to 0 10) gives refuse 21) ++
     word_rows ++
     effect_rows ++
-    block_rows ++
     gate_rows ++
     handed_on_rows ++
     reach_rows ++

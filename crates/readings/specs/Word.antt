@@ -36,8 +36,7 @@ word_rows =
     masked_from 16 10 (addressed 0) ++
     masked_from 16 11 (addressed 0) ++
     masked_from 12 12 (0 ∷ 0 ∷ 0 ∷ 4294967295 ∷ []) ++
-    masked_from 19 13 (addressed 7) ++
-    (instruction 0x0E000000 gives refuse 27) ∷
+    (instruction 0x0D000000 gives refuse 27) ∷
     (instruction 0xFF000000 gives refuse 27) ∷
     each_bit 28 4 (λ b. instruction (0x01000000 + b) gives refuse 27) ++
     (instruction 0x010007FF gives ok (1 ∷ 0 ∷ 0 ∷ 0 ∷ 2047 ∷ [])) ∷

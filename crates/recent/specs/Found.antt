@@ -45,6 +45,6 @@ abbrev pub registers_after : List Register → Answer Found → List Register
 registers_after rs (refuse n) = rs
 registers_after rs (ok f) = f.registers
 
--- the registers after a reference to n words from word up, to read them or to write them
-unfoldable pub referred_to : List Register → ℕ → Frame → ℕ → ℕ → ℕ → Bool → List Register
-referred_to rs depth frame segment word n read = registers_after rs (found_of rs depth frame (covers_of segment word n read (not read)))
+-- the registers after a reference to a word, to read it or to write it
+unfoldable pub referred_to : List Register → ℕ → Frame → ℕ → ℕ → Bool → List Register
+referred_to rs depth frame segment word read = registers_after rs (found_of rs depth frame (covers_of segment word 1 read (not read)))

@@ -41,8 +41,8 @@ module _ (depth : ℕ) (frame : Frame) where
   none-renewed r = by r.pointer.tag
     where
       by : (t : Bool)
-          → (if t then registers_after [] (found_of [] depth frame (covers_of r.pointer.segment r.pointer.word r.count (is_read r.access) (not (is_read r.access)))) else []) ≡ []
-      by true = none_found (covers_of r.pointer.segment r.pointer.word r.count (is_read r.access) (not (is_read r.access)))
+          → (if t then registers_after [] (found_of [] depth frame (covers_of r.pointer.segment r.pointer.word 1 (is_read r.access) (not (is_read r.access)))) else []) ≡ []
+      by true = none_found (covers_of r.pointer.segment r.pointer.word 1 (is_read r.access) (not (is_read r.access)))
       by false = refl
 
   pub none-all : (made : List MadeReference) → renewed_all [] depth frame made ≡ []

@@ -4,8 +4,7 @@ use mathlib.Core.Bool.{Bool, true, false}
 use mathlib.Core.List.{List, []}
 use mathlib.Core.Path.{◌≡◌, refl, sym, ap, ◌∙◌}
 use lib.Dec.{eqb}
-use lib.ListN.{get_or, length}
-use lib.Seq.{sets}
+use lib.ListN.{get_or, set}
 use Rattle.words.specs.Answer.{Answer, refuse, ok, ◌>>=◌, if◌then◌else◌}
 use Rattle.words.specs.InstructionWord.{instruction_of}
 use Rattle.words.specs.declared.pointer.Pointer.{Pointer}
@@ -17,9 +16,9 @@ use Rattle.state.specs.Record.{no_pointer, in_use, live_frame}
 use Rattle.soundness.proofs.Facts.{sound-facts}
 use Rattle.recent.specs.SoundRegisters.{recent_test}
 use Rattle.references.specs.declared.flag.Access.TheVariants as access
-use Rattle.references.specs.Check.{check_run}
-use Rattle.memory.specs.Reader.{Reader, RunReader, read_word, read_run, fetch}
-use Rattle.instructions.specs.Plan.{Plan, halt, move, store, copy, enter, leave}
+use Rattle.references.specs.Check.{check}
+use Rattle.memory.specs.Reader.{Reader, read_word, fetch}
+use Rattle.instructions.specs.Plan.{Plan, halt, move, store, enter, leave}
 use Rattle.instructions.specs.Instruction.{plan_of}
 use Rattle.instructions.specs.Made.{made_of, place_of}
 use Rattle.arguments.specs.ArgumentList.{frame_of}
@@ -27,13 +26,13 @@ use Rattle.crossings.specs.Crossing.{entered, left, enter_of, leave_check, leave
 use Rattle.runs.specs.Step.{Act, stop, proceed, put, cross, Done, done, moved_to, proceeded, resolve, recent_after, decide, commit, execute}
 use Rattle.recent_theorems.specs.Statements.{with_recent, bare, bare_done, SameStep}
 use Rattle.recent_theorems.proofs.None.{none-all, none-called, none_left}
-use Rattle.recent_theorems.proofs.Checks.{bare-check, bare-read, bare-run}
+use Rattle.recent_theorems.proofs.Checks.{bare-check, bare-read}
 
 -- what an instruction does, without registers
 abbrev bare_act : Act → Act
 bare_act stop = stop
 bare_act (proceed a segment word pointers recent) = proceed a segment word pointers []
-bare_act (put p vs recent) = put p vs []
+bare_act (put p v recent) = put p v []
 bare_act (cross n) = cross (bare n)
 
 abbrev bare_acts : Answer Act → Answer Act
@@ -73,23 +72,18 @@ module _ (m : Machine) where
 
   bare-recent : (read : Reader) (i : Answer Instruction) → recent_after (bare m) read i ≡ []
   unfolding recent_after
-  bare-recent read i = none-all (in_use m.depth) (live_frame m.depth m.frames) (made_of read m.registers.a m.pointers i)
+  bare-recent read i = none-all (in_use m.depth) (live_frame m.depth m.frames) (made_of read m.pointers i)
 
-  bare-resolve : (read : Reader) (run : RunReader) (recent : List Register) (q : Pointer) (plan : Plan) → bare_acts (resolve m read run recent q plan) ≡ resolve (bare m) read run [] q plan
-  bare-resolve read run recent q halt = refl
-  bare-resolve read run recent q (move a segment word pointers) = refl
-  bare-resolve read run recent q (store p v) = refl
-  bare-resolve read run recent q (copy p t n) = by (run p n)
-    where
-      by : (x : Answer (List ℕ)) → bare_acts (x >>= (λ vs. ok (put t vs recent))) ≡ (x >>= (λ vs. ok (put t vs [])))
-      by (refuse n) = refl
-      by (ok vs) = refl
-  bare-resolve read run recent q (enter p) = bare-enter read p
-  bare-resolve read run recent q (leave p) = bare-leave q p
+  bare-resolve : (read : Reader) (recent : List Register) (q : Pointer) (plan : Plan) → bare_acts (resolve m read recent q plan) ≡ resolve (bare m) read [] q plan
+  bare-resolve read recent q halt = refl
+  bare-resolve read recent q (move a segment word pointers) = refl
+  bare-resolve read recent q (store p v) = refl
+  bare-resolve read recent q (enter p) = bare-enter read p
+  bare-resolve read recent q (leave p) = bare-leave q p
 
-  bare-decide : (fetched : Answer ℕ) (read : Reader) (run : RunReader) → bare_acts (decide m fetched read run) ≡ decide (bare m) fetched read run
+  bare-decide : (fetched : Answer ℕ) (read : Reader) → bare_acts (decide m fetched read) ≡ decide (bare m) fetched read
   unfolding decide
-  bare-decide fetched read run =
+  bare-decide fetched read =
       by (plan_of m.layout.lengths m.layout.gates m.layout.rights m.layout.stacks m.depth m.registers m.pointers fetched read)
     where
       i : Answer Instruction
@@ -98,24 +92,24 @@ module _ (m : Machine) where
       q : Pointer
       q = place_of m.pointers i
 
-      by : (x : Answer Plan) → bare_acts (x >>= resolve m read run (recent_after m read i) q) ≡ (x >>= resolve (bare m) read run (recent_after (bare m) read i) q)
+      by : (x : Answer Plan) → bare_acts (x >>= resolve m read (recent_after m read i) q) ≡ (x >>= resolve (bare m) read (recent_after (bare m) read i) q)
       by (refuse n) = refl
-      by (ok plan) = bare-resolve read run (recent_after m read i) q plan ∙ ap (λ (rs : List Register). resolve (bare m) read run rs q plan) (sym (bare-recent read i))
+      by (ok plan) = bare-resolve read (recent_after m read i) q plan ∙ ap (λ (rs : List Register). resolve (bare m) read rs q plan) (sym (bare-recent read i))
 
   module _ (few : m.depth ≤ 8) (t : recent_test m.depth m.frames m.recent ≡ true) (words : List ℕ) where
     bare-commit : (a : Act) → bare_done (commit m words a) ≡ commit (bare m) words (bare_act a)
     unfolding commit
     bare-commit stop = refl
     bare-commit (proceed a segment word pointers recent) = refl
-    bare-commit (put p vs recent) = by (check_run m access.Write p (length vs)) ∙ ap (λ (x : Answer ℕ). x >>= stores) (bare-check m few m.recent t access.Write p (length vs))
+    bare-commit (put p v recent) = by (check m access.Write p) ∙ ap (λ (x : Answer ℕ). x >>= stores) (bare-check m few m.recent t access.Write p)
       where
         next : List Register → Machine
         next recent = moved_to m m.registers.a m.registers.segment (m.registers.word + 1) m.pointers recent
 
         stores : ℕ → Answer Done
-        stores i = ok (done (next []) (sets words i vs) proceeded)
+        stores i = ok (done (next []) (set words i v) proceeded)
 
-        by : (x : Answer ℕ) → bare_done (x >>= (λ i. ok (done (next recent) (sets words i vs) proceeded))) ≡ (x >>= stores)
+        by : (x : Answer ℕ) → bare_done (x >>= (λ i. ok (done (next recent) (set words i v) proceeded))) ≡ (x >>= stores)
         by (refuse n) = refl
         by (ok i) = refl
     bare-commit (cross n) = refl
@@ -123,10 +117,8 @@ module _ (m : Machine) where
     pub bare-execute : bare_done (execute m words) ≡ execute (bare m) words
     unfolding execute fetch
     bare-execute =
-        by (decide m (fetch m words) (read_word m words) (read_run m words))
-        ∙ ap (λ (x : Answer Act). x >>= commit (bare m) words) (bare-decide (fetch m words) (read_word m words) (read_run m words))
-        ∙ ap (λ (read : Reader). decide (bare m) (fetch m words) read (read_run m words) >>= commit (bare m) words) (bare-read m few t words)
-        ∙ ap (λ (run : RunReader). decide (bare m) (fetch m words) (read_word (bare m) words) run >>= commit (bare m) words) (bare-run m few t words)
+        by (decide m (fetch m words) (read_word m words)) ∙ ap (λ (x : Answer Act). x >>= commit (bare m) words) (bare-decide (fetch m words) (read_word m words))
+        ∙ ap (λ (read : Reader). decide (bare m) (fetch m words) read >>= commit (bare m) words) (bare-read m few t words)
       where
         by : (x : Answer Act) → bare_done (x >>= commit m words) ≡ (bare_acts x >>= commit (bare m) words)
         by (refuse n) = refl

@@ -26,8 +26,8 @@ use Rattle.recent.specs.SoundRegisters.{absent, numbers_test, register_test, con
 use Rattle.recent.specs.Found.{held_of, found_of, referred_to}
 use Rattle.references.specs.Flag.{has}
 use Rattle.references.specs.Static.{exists, rights_of, static_of}
-use Rattle.references.specs.Live.{live_run_through}
-use Rattle.references.specs.Reference.{verdict_run, locate_of, reference_run}
+use Rattle.references.specs.Live.{live_through}
+use Rattle.references.specs.Reference.{verdict_of, locate_of, reference_of}
 use Rattle.references.specs.Made.{made_read, renewed, renewed_all}
 use Rattle.memory.specs.Reader.{read_of, fetch_of, read_word, fetch}
 use Rattle.addressing.specs.Effective.{displaced_by, through_of, effective_of}
@@ -107,7 +107,7 @@ pub record Computed (rest : List ℕ) : Type 0 where
 
 pub computed : (rest : List ℕ) → Computed rest
 unfolding field common signed_of displaced_of pointer_of instruction_of mode_of base_of bases_of fresh_of has exists rights_of static_of covers_of first_of shares yields all_yield same may_enter
-    risen touched filled order_of before cleared listed held_of found_of referred_to live_run_through verdict_run locate_of reference_run renewed renewed_all read_of fetch_of read_word fetch
+    risen touched filled order_of before cleared listed held_of found_of referred_to live_through verdict_of locate_of reference_of renewed renewed_all read_of fetch_of read_word fetch
     displaced_by through_of effective_of call_way call_of return_of load_of is_load is_store effect_of execute_of plan_of indirect_place made_at made_by
     list_word list_pointer source_of capability_of argument_of arguments_from frame_after frame_of called_recent left_recent entered left enter_of leave_check leave_of
     recent_after decide commit execute run_from start memory

@@ -1,4 +1,3 @@
-pub mod Runs
 pub mod Passes
 pub mod Sources
 pub mod Places

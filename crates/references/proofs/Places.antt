@@ -1,5 +1,5 @@
 -- Where existing words lie: within the words of the machine, and each at a place of its own.
-use Prim.Native.Nat.{ℕ, ◌+◌, ◌<◌, ◌≤◌}
+use Prim.Native.Nat.{ℕ, ◌+◌, ◌<◌}
 use native.Mathlib.Omega.{arith}
 use native.Mathlib.Decide.{ℕ_discrete, dec_lt}
 use mathlib.Core.Bool.{Bool, true, false}
@@ -15,11 +15,10 @@ use Rattle.state.specs.Bases.{base_of, bases_of, words_in}
 use Rattle.state.proofs.Sums.{base-apart, bases-at}
 use Rattle.references.specs.declared.flag.Flag.{Flag}
 use Rattle.references.specs.declared.flag.Access.{Access}
-use Rattle.references.specs.Static.{exists, last_of}
-use Rattle.references.specs.Reference.{index_of, accept, locate_of, reference_run}
-use Rattle.references.specs.Check.{static_check, check, check_run}
-use Rattle.references.proofs.Passes.{exists-facts, static-exists, verdict-exists, run-facts}
-use Rattle.references.proofs.Runs.{last-is}
+use Rattle.references.specs.Static.{exists}
+use Rattle.references.specs.Reference.{index_of, accept, locate_of, reference_of}
+use Rattle.references.specs.Check.{static_check, check}
+use Rattle.references.proofs.Passes.{exists-facts, static-exists, verdict-exists}
 
 -- the index of an existing word is below the sum of the lengths
 pub index-lt : (lengths : List ℕ) (s w : ℕ) → exists lengths s w ≡ true → index_of (bases_of lengths) s w < words_in lengths
@@ -64,14 +63,8 @@ static-lt m d f s w i e =
     let t = accepted _ _ i e in
     subst (λ (k : ℕ). k < words_in m.layout.lengths) t.1 (index-lt _ s w (static-exists _ _ d f s w t.0))
 
--- the indices of words that pass the check of a reference are below it
-pub run-lt : (m : Machine) (a : Access) (p : Pointer) (n i : ℕ) → check_run m a p n ≡ ok i → i + n ≤ words_in m.layout.lengths
-unfolding check_run reference_run
-run-lt m a p n i e =
-    let t = accepted _ _ i e in
-    let v = verdict-exists _ _ _ _ _ _ a p n t.0 in
-    let h = index-lt _ p.segment (last_of p.word n) v.1 in
-    omega (arith, h, last-is p.word n (run-facts n v.0).0, t.1)
-
 pub check-lt : (m : Machine) (a : Access) (p : Pointer) (i : ℕ) → check m a p ≡ ok i → i < words_in m.layout.lengths
-check-lt m a p i e = omega (arith, run-lt m a p 1 i e)
+unfolding check reference_of
+check-lt m a p i e =
+    let t = accepted _ _ i e in
+    subst (λ (k : ℕ). k < words_in m.layout.lengths) t.1 (index-lt _ p.segment p.word (verdict-exists _ _ _ _ _ _ a p t.0))

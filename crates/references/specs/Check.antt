@@ -7,18 +7,14 @@ use Rattle.state.specs.Record.{in_use, live_frame}
 use Rattle.state.specs.Bases.{bases_of}
 use Rattle.references.specs.declared.flag.Flag.{Flag}
 use Rattle.references.specs.declared.flag.Access.{Access}
-use Rattle.references.specs.Reference.{locate_of, reference_run}
+use Rattle.references.specs.Reference.{locate_of, reference_of}
 
 -- the static check of a domain, giving the index of the word in the memory
 unfoldable pub static_check : Machine → ℕ → Flag → ℕ → ℕ → Answer ℕ
 static_check m domain flag segment word =
     locate_of m.layout.lengths m.layout.rights (bases_of m.layout.lengths) domain flag segment word
 
--- the check of a reference to n words by the executing domain, giving the index of the first in the memory
-unfoldable pub check_run : Machine → Access → Pointer → ℕ → Answer ℕ
-check_run m access p n =
-    reference_run m.layout.lengths m.layout.rights (bases_of m.layout.lengths) m.registers.domain m.recent (in_use m.depth) (live_frame m.depth m.frames) access p n
-
--- of one word
-abbrev pub check : Machine → Access → Pointer → Answer ℕ
-check m access p = check_run m access p 1
+-- the check of a reference by the executing domain, giving the index of the word in the memory
+unfoldable pub check : Machine → Access → Pointer → Answer ℕ
+check m access p =
+    reference_of m.layout.lengths m.layout.rights (bases_of m.layout.lengths) m.registers.domain m.recent (in_use m.depth) (live_frame m.depth m.frames) access p

@@ -9,7 +9,7 @@ use Rattle.references.specs.declared.flag.Access.{Access}
 use Rattle.references.specs.declared.live.SourceAnswer.{SourceAnswer}
 use Rattle.references.specs.declared.live.SourceAnswer.TheVariants as variant
 use Rattle.references.specs.Flag.{flag_of, is_read}
-use Rattle.references.specs.Static.{static_of, last_of}
+use Rattle.references.specs.Static.{static_of}
 use Rattle.capabilities.specs.Search.{covers_of, first_of}
 use Rattle.recent.specs.Found.{found_of}
 
@@ -17,30 +17,23 @@ use Rattle.recent.specs.Found.{found_of}
 unfoldable pub live_match : ℕ → Frame → (Capability → Bool) → Answer Capability
 live_match depth frame fits = if eqb depth 0 then refuse no_match else first_of fits (take frame.count frame.capabilities)
 
--- after the match: its source must pass the static check for the same reference, whose last word is given, and no later capability is tried
+-- after the match: its source must pass the static check for the same reference, and no later capability is tried
 abbrev pub sourced : List ℕ → List ℕ → Access → ℕ → ℕ → Answer Capability → ℕ
 sourced lengths rights access segment word (refuse n) = n
 sourced lengths rights access segment word (ok c) =
     if eqb (static_of lengths rights c.source (flag_of access) segment word) 0 then 0 else source_fails
 
--- with no registers: 0 where one capability of the live frame allows the access to n words from word up, and its source has all of them
-unfoldable pub live_run : List ℕ → List ℕ → ℕ → Frame → Access → ℕ → ℕ → ℕ → ℕ
-live_run lengths rights depth frame access segment word n =
-    sourced lengths rights access segment (last_of word n)
-    (live_match depth frame (covers_of segment word n (is_read access) (not (is_read access))))
+-- with no registers: 0 where the live frame allows the access, else the number of the fault
+unfoldable pub live_of : List ℕ → List ℕ → ℕ → Frame → Access → ℕ → ℕ → ℕ
+live_of lengths rights depth frame access segment word =
+    sourced lengths rights access segment word
+    (live_match depth frame (covers_of segment word 1 (is_read access) (not (is_read access))))
 
 -- the same through the registers
-unfoldable pub live_run_through : List ℕ → List ℕ → List Register → ℕ → Frame → Access → ℕ → ℕ → ℕ → ℕ
-live_run_through lengths rights recent depth frame access segment word n =
-    sourced lengths rights access segment (last_of word n)
-    (found_of recent depth frame (covers_of segment word n (is_read access) (not (is_read access))) >>= (λ f. ok f.capability))
-
--- both of one word
-abbrev pub live_of : List ℕ → List ℕ → ℕ → Frame → Access → ℕ → ℕ → ℕ
-live_of lengths rights depth frame access segment word = live_run lengths rights depth frame access segment word 1
-
-abbrev pub live_through : List ℕ → List ℕ → List Register → ℕ → Frame → Access → ℕ → ℕ → ℕ
-live_through lengths rights recent depth frame access segment word = live_run_through lengths rights recent depth frame access segment word 1
+unfoldable pub live_through : List ℕ → List ℕ → List Register → ℕ → Frame → Access → ℕ → ℕ → ℕ
+live_through lengths rights recent depth frame access segment word =
+    sourced lengths rights access segment word
+    (found_of recent depth frame (covers_of segment word 1 (is_read access) (not (is_read access))) >>= (λ f. ok f.capability))
 
 -- the source that is passed on: of the first capability that covers the whole argument with all flags asked
 unfoldable pub passed_of : ℕ → Frame → ℕ → ℕ → ℕ → Bool → Bool → Answer ℕ

@@ -9,26 +9,21 @@ use Rattle.references.specs.declared.flag.Access.{Access}
 use Rattle.references.specs.declared.flag.Access.TheVariants as access
 use Rattle.references.specs.Flag.{is_read}
 
--- a reference to so many words from a pointer up
+-- a reference through a pointer
 pub record MadeReference : Type 0 where
   pub access : Access
   pub pointer : Pointer
-  pub count : ℕ
 
-abbrev pub made : Access → Pointer → ℕ → MadeReference
-made access p n = record { access = access; pointer = p; count = n }
-
--- to one word
 abbrev pub made_read : Pointer → MadeReference
-made_read p = made access.Read p 1
+made_read p = record { access = access.Read; pointer = p }
 
 abbrev pub made_write : Pointer → MadeReference
-made_write p = made access.Write p 1
+made_write p = record { access = access.Write; pointer = p }
 
 -- the registers after a reference; an untagged one does not use them
 unfoldable pub renewed : List Register → ℕ → Frame → MadeReference → List Register
 renewed recent depth frame r =
-    if r.pointer.tag then referred_to recent depth frame r.pointer.segment r.pointer.word r.count (is_read r.access) else recent
+    if r.pointer.tag then referred_to recent depth frame r.pointer.segment r.pointer.word (is_read r.access) else recent
 
 -- after references, one after the other
 unfoldable pub renewed_all : List Register → ℕ → Frame → List MadeReference → List Register

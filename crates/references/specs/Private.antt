@@ -11,6 +11,6 @@ use Rattle.recent.specs.Found.{found_of}
 abbrev pub code_answer : ℕ → Answer ℕ
 code_answer n = if ltb n 256 then ok n else refuse no_match
 
--- the source behind a reference to n words, through the registers
-unfoldable pub found_source : List Register → ℕ → Frame → ℕ → ℕ → ℕ → Bool → Answer ℕ
-found_source recent depth frame segment word n read = found_of recent depth frame (covers_of segment word n read (not read)) >>= (λ f. ok f.capability.source)
+-- the source behind a reference to a word, through the registers
+unfoldable pub found_source : List Register → ℕ → Frame → ℕ → ℕ → Bool → Answer ℕ
+found_source recent depth frame segment word read = found_of recent depth frame (covers_of segment word 1 read (not read)) >>= (λ f. ok f.capability.source)

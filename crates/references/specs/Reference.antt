@@ -1,7 +1,6 @@
 -- The check of a reference by the pointer's tag.
-use Rattle.std.specs.Prelude.{ℕ, ◌+◌, List, Bool, ◌&&◌, leb, eqb, get_or}
+use Rattle.std.specs.Prelude.{ℕ, ◌+◌, List, eqb, get_or}
 use Rattle.words.specs.Answer.{Answer, refuse, ok, if◌then◌else◌}
-use Rattle.words.specs.Numbers.{bad_count}
 use Rattle.words.specs.declared.pointer.Pointer.{Pointer}
 use Rattle.state.specs.declared.record.Frame.{Frame}
 use Rattle.state.specs.declared.record.Register.{Register}
@@ -10,24 +9,14 @@ use Rattle.references.specs.declared.flag.Access.{Access}
 use Rattle.references.specs.declared.reference.IndexAnswer.{IndexAnswer}
 use Rattle.references.specs.declared.reference.IndexAnswer.TheVariants as variant
 use Rattle.references.specs.Flag.{flag_of}
-use Rattle.references.specs.Static.{static_of, static_run}
-use Rattle.references.specs.Live.{live_run_through}
+use Rattle.references.specs.Static.{static_of}
+use Rattle.references.specs.Live.{live_through}
 
--- a run has 1 to 64 words
-abbrev pub is_run : ℕ → Bool
-is_run n = leb 1 n && leb n 64
-
--- a reference to n words from a pointer up: 0, or the number of the fault; live, through the registers, for a tagged pointer, static for another
-unfoldable pub verdict_run : List ℕ → List ℕ → ℕ → List Register → ℕ → Frame → Access → Pointer → ℕ → ℕ
-verdict_run lengths rights domain recent depth frame access p n =
-    if is_run n then
-    (if p.tag then live_run_through lengths rights recent depth frame access p.segment p.word n
-    else static_run lengths rights domain (flag_of access) p.segment p.word n)
-    else bad_count
-
--- of one word
-abbrev pub verdict_of : List ℕ → List ℕ → ℕ → List Register → ℕ → Frame → Access → Pointer → ℕ
-verdict_of lengths rights domain recent depth frame access p = verdict_run lengths rights domain recent depth frame access p 1
+-- 0, or the number of the fault: live, through the registers, for a tagged pointer, static for another
+unfoldable pub verdict_of : List ℕ → List ℕ → ℕ → List Register → ℕ → Frame → Access → Pointer → ℕ
+verdict_of lengths rights domain recent depth frame access p =
+    if p.tag then live_through lengths rights recent depth frame access p.segment p.word
+    else static_of lengths rights domain (flag_of access) p.segment p.word
 
 -- a value where the number is 0, else the refusal
 abbrev pub accept : {A : Type 0} → ℕ → A → Answer A
@@ -41,21 +30,13 @@ index_of bases segment word = get_or bases segment 0 + word
 unfoldable pub locate_of : List ℕ → List ℕ → List ℕ → ℕ → Flag → ℕ → ℕ → Answer ℕ
 locate_of lengths rights bases domain flag segment word = accept (static_of lengths rights domain flag segment word) (index_of bases segment word)
 
--- the index of the first of n words that pass the live check, and of one word
-unfoldable pub live_reference_run : List ℕ → List ℕ → List ℕ → List Register → ℕ → Frame → Access → ℕ → ℕ → ℕ → Answer ℕ
-live_reference_run lengths rights bases recent depth frame access segment word n =
-    accept (live_run_through lengths rights recent depth frame access segment word n) (index_of bases segment word)
+-- the index of a word that passes the live check
+unfoldable pub live_reference_of : List ℕ → List ℕ → List ℕ → List Register → ℕ → Frame → Access → ℕ → ℕ → Answer ℕ
+live_reference_of lengths rights bases recent depth frame access segment word = accept (live_through lengths rights recent depth frame access segment word) (index_of bases segment word)
 
-abbrev pub live_reference_of : List ℕ → List ℕ → List ℕ → List Register → ℕ → Frame → Access → ℕ → ℕ → Answer ℕ
-live_reference_of lengths rights bases recent depth frame access segment word = live_reference_run lengths rights bases recent depth frame access segment word 1
-
--- the index of the first of n words that pass the check of a reference, and of one word
-unfoldable pub reference_run : List ℕ → List ℕ → List ℕ → ℕ → List Register → ℕ → Frame → Access → Pointer → ℕ → Answer ℕ
-reference_run lengths rights bases domain recent depth frame access p n =
-    accept (verdict_run lengths rights domain recent depth frame access p n) (index_of bases p.segment p.word)
-
-abbrev pub reference_of : List ℕ → List ℕ → List ℕ → ℕ → List Register → ℕ → Frame → Access → Pointer → Answer ℕ
-reference_of lengths rights bases domain recent depth frame access p = reference_run lengths rights bases domain recent depth frame access p 1
+-- the index of a word that passes the check of a reference
+unfoldable pub reference_of : List ℕ → List ℕ → List ℕ → ℕ → List Register → ℕ → Frame → Access → Pointer → Answer ℕ
+reference_of lengths rights bases domain recent depth frame access p = accept (verdict_of lengths rights domain recent depth frame access p) (index_of bases p.segment p.word)
 
 -- what the code's answer stands for
 abbrev pub index_answer : IndexAnswer → Answer ℕ

@@ -1,5 +1,5 @@
 -- The static check.
-use Rattle.std.specs.Prelude.{ℕ, ◌+◌, ◌-◌, ◌*◌, Bool, ◌&&◌, List, eqb, ltb, get_or}
+use Rattle.std.specs.Prelude.{ℕ, ◌+◌, ◌*◌, Bool, ◌&&◌, List, ltb, get_or}
 use Rattle.words.specs.Answer.{if◌then◌else◌}
 use Rattle.words.specs.Numbers.{no_word, flag_missing}
 use Rattle.references.specs.declared.flag.Flag.{Flag}
@@ -17,11 +17,3 @@ rights_of rights domain segment = if ltb domain 8 then get_or rights (domain * 1
 unfoldable pub static_of : List ℕ → List ℕ → ℕ → Flag → ℕ → ℕ → ℕ
 static_of lengths rights domain flag segment word =
     if exists lengths segment word then (if has (rights_of rights domain segment) flag then 0 else flag_missing) else no_word
-
--- the last word of a run of n words; of a run of one, its only word
-abbrev pub last_of : ℕ → ℕ → ℕ
-last_of word n = if eqb n 1 then word else word + (n - 1)
-
--- the static check of n words from word up: word numbers begin at 0, so all of them exist where the last one does
-abbrev pub static_run : List ℕ → List ℕ → ℕ → Flag → ℕ → ℕ → ℕ → ℕ
-static_run lengths rights domain flag segment word n = static_of lengths rights domain flag segment (last_of word n)

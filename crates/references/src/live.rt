@@ -1,11 +1,11 @@
 // The live check (dynamic access validation), and arguments that are passed on.
 ghost use Rattle.std.specs.Prelude.{◌≡◌, ◌<◌, ◌≤◌};
-ghost use Rattle.references.specs.Live.{live_through, live_run_through, passed_of, source_answer};
+ghost use Rattle.references.specs.Live.{live_through, passed_of, source_answer};
 ghost use Rattle.references.specs.Private.{code_answer, found_source};
 ghost use Rattle.lent_registers.specs.Columns.{registers_of};
 
 use crate::flag::{Access, asked, is_read};
-use crate::statics::{static_check, static_run};
+use crate::statics::static_check;
 use capabilities::CapabilityAnswer;
 use lent_registers::lookup::held;
 use slice_search::search;
@@ -64,13 +64,13 @@ fn found_source(
     word: u16,
     read: bool,
 ) -> u16
-    ensures result_value { code_answer result ≡ found_source (registers_of recent.now) depth frame segment word 1 read }
+    ensures result_value { code_answer result ≡ found_source (registers_of recent.now) depth frame segment word read }
     ensures upper_bound { result ≤ 256 }
 {
     if depth == 0 {
         return 256;
     }
-    let i = held(recent, depth, segment, word, 1, read);
+    let i = held(recent, depth, segment, word, read);
     if i < 16 {
         return wide(recent[48 + i]);
     }
@@ -108,63 +108,6 @@ pub fn live_check<'a>(
     } else {
         25
     }
-}
-
-// The source behind a reference to so many words, likewise.
-fn found_run(
-    recent: &[u8; 160],
-    depth: u8,
-    frame: Frame,
-    segment: u8,
-    word: u16,
-    count: u16,
-    read: bool,
-) -> u16
-    ensures result_value { code_answer result ≡ found_source (registers_of recent.now) depth frame segment word count read }
-    ensures upper_bound { result ≤ 256 }
-{
-    if depth == 0 {
-        return 256;
-    }
-    let k = held(recent, depth, segment, word, count, read);
-    if k < 16 {
-        return wide(recent[48 + k]);
-    }
-    source_of(depth, frame, segment, word, count, read, !read)
-}
-
-// The live check of so many words. That of one is a function apart, which the compiler makes cheaper.
-pub fn live_run<'a>(
-    lengths: &'a [u16; 16],
-    rights: &'a [u8; 128],
-    recent: &[u8; 160],
-    depth: u8,
-    frame: Frame,
-    access: Access,
-    segment: u8,
-    word: u16,
-    count: u16,
-) -> u8
-    ensures { result ≡ live_run_through lengths.now rights.now (registers_of recent.now) depth frame access segment word count }
-{
-    let read = is_read(access);
-    let source = found_run(recent, depth, frame, segment, word, count, read);
-    if 256 <= source {
-        return 24;
-    }
-    let n = static_run(
-        lengths,
-        rights,
-        (source % 256) as u8,
-        asked(access),
-        segment,
-        word,
-        count,
-    );
-    if n != 0 {
-        return 25;
-    }
-    0
 }
 
 // The source of the first capability of the live frame that covers a whole argument with all flags asked.

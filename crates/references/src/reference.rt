@@ -9,7 +9,7 @@ use crate::statics::static_check;
 use state::record::Frame;
 use words::pointer::Pointer;
 
-// What a check gives: the index of the word in the memory, or the refusal 21, 22, 24 or 25, for a run also 33.
+// What a check gives: the index of the word in the memory, or the refusal 21, 22, 24 or 25.
 #[derive(Drop)]
 pub enum IndexAnswer {
     At(usize),

@@ -1,42 +1,18 @@
 // References, noted in the registers.
 ghost use Rattle.std.specs.Prelude.{◌≡◌};
 ghost use Rattle.lent_registers.specs.Columns.{registers_of};
-ghost use Rattle.references.specs.Made.{made, renewed};
+ghost use Rattle.references.specs.Made.{renewed};
 
 use crate::flag::{Access, is_read};
-use lent_registers::renewal::{refer, refer_run};
+use lent_registers::renewal::refer;
 use state::record::Frame;
 use words::pointer::Pointer;
 
 // A reference through a pointer; an untagged one does not use the registers.
 pub fn renew(recent: &mut [u8; 160], depth: u8, frame: Frame, access: Access, p: Pointer)
-    ensures { registers_of recent.new ≡ renewed (registers_of recent.old) depth frame (made access p 1) }
+    ensures { registers_of recent.new ≡ renewed (registers_of recent.old) depth frame (record { access = access; pointer = p }) }
 {
     if p.tag {
         refer(recent, depth, frame, p.segment, p.word, is_read(access));
-    }
-}
-
-// The same to so many words from a pointer up.
-pub fn renew_run(
-    recent: &mut [u8; 160],
-    depth: u8,
-    frame: Frame,
-    access: Access,
-    q: Pointer,
-    count: u16,
-)
-    ensures { registers_of recent.new ≡ renewed (registers_of recent.old) depth frame (made access q count) }
-{
-    if q.tag {
-        refer_run(
-            recent,
-            depth,
-            frame,
-            q.segment,
-            q.word,
-            count,
-            is_read(access),
-        );
     }
 }

@@ -15,8 +15,7 @@ use Rattle.references.specs.declared.flag.Access.TheVariants as access
 use Rattle.references.specs.Reference.{verdict_of}
 use Rattle.instructions.specs.declared.cycle.Event.{Event}
 use Rattle.instructions.specs.declared.cycle.Event.TheVariants as event
-use Rattle.blocks.specs.Block.{copied_of}
-use Rattle.instructions.specs.Plan.{Plan, halt, move, store, copy, enter, leave}
+use Rattle.instructions.specs.Plan.{Plan, halt, move, store, enter, leave}
 use Rattle.words.specs.InstructionWord.{instruction_of}
 use Rattle.memory.specs.Reader.{read_of, fetch_of}
 use Rattle.instructions.specs.Made.{place_of}
@@ -58,10 +57,6 @@ either-free : (depth : ℕ) (t : Bool) (r : Registers) (ps : List Pointer) (n : 
 either-free depth true r ps n = tt
 either-free depth false r ps n = tt
 
-copied-free : (depth : ℕ) (x : Answer (List ℕ)) (r : Registers) (ps : List Pointer) → FreeCycle depth (x >>= (λ next. ok (moved r ps)))
-copied-free depth (refuse n) r ps = tt
-copied-free depth (ok next) r ps = tt
-
 module _ (lengths gates rights stacks bases : List ℕ) (depth : ℕ) (frame : Frame) where
   settled-free : (words : List ℕ) (recent : List Register) (r : Registers) (ps : List Pointer) (q : Pointer) (plan : Answer Plan) → Free depth plan
       → FreeCycle depth (plan >>= settled lengths rights bases words recent depth frame r ps q)
@@ -69,7 +64,6 @@ module _ (lengths gates rights stacks bases : List ℕ) (depth : ℕ) (frame : F
   settled-free words recent r ps q (ok halt) f = tt
   settled-free words recent r ps q (ok (move a s w qs)) f = tt
   settled-free words recent r ps q (ok (store p v)) f = either-free depth (eqb (verdict_of lengths rights r.domain recent depth frame access.Write p) 0) _ _ _
-  settled-free words recent r ps q (ok (copy p t n)) f = copied-free depth (copied_of lengths rights bases words r.domain recent depth frame p t n) _ ps
   settled-free words recent r ps q (ok (enter p)) f = f
   settled-free words recent r ps q (ok (leave p)) f = tt
 

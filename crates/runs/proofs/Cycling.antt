@@ -2,12 +2,11 @@
 use Prim.Native.Nat.{ℕ, zero, suc, ◌+◌, ◌-◌, ◌<◌, ◌≤◌}
 use native.Mathlib.Omega.{arith}
 use mathlib.Core.Bool.{Bool, true, false}
-use mathlib.Core.List.{List, [], ◌∷◌}
+use mathlib.Core.List.{List}
 use mathlib.Core.Path.{◌≡◌, refl, sym, ap, ◌∙◌}
 use borrow.Author.Tests.{le-leb}
 use lib.Dec.{eqb, leb}
 use lib.ListN.{length, get_or, set}
-use lib.Seq.{sets}
 use Rattle.words.specs.Answer.{Answer, refuse, ok, ◌>>=◌, if◌then◌else◌}
 use Rattle.words.specs.declared.pointer.Pointer.{Pointer}
 use Rattle.state.specs.declared.record.Frame.{Frame}
@@ -17,13 +16,12 @@ use Rattle.state.specs.declared.record.Machine.{Machine}
 use Rattle.state.specs.Record.{no_pointer, in_use, live_frame}
 use Rattle.state.specs.Bases.{bases_of}
 use Rattle.references.specs.declared.flag.Access.TheVariants as access
-use Rattle.references.specs.Reference.{verdict_of, accept, index_of, reference_run}
-use Rattle.references.specs.Check.{check, check_run}
+use Rattle.references.specs.Reference.{verdict_of, accept, index_of, reference_of}
+use Rattle.references.specs.Check.{check}
 use Rattle.instructions.specs.declared.cycle.Event.{Event}
 use Rattle.instructions.specs.declared.cycle.Event.TheVariants as event
-use Rattle.memory.specs.Reader.{read_of, read_run_of, fetch_of, read_word, read_run, fetch, stored, written_run}
-use Rattle.instructions.specs.Plan.{Plan, halt, move, store, copy, enter, leave}
-use Rattle.blocks.specs.Block.{copied_of, words_after}
+use Rattle.memory.specs.Reader.{read_of, fetch_of, read_word, fetch, stored, written_of}
+use Rattle.instructions.specs.Plan.{Plan, halt, move, store, enter, leave}
 use Rattle.words.specs.InstructionWord.{instruction_of}
 use Rattle.words.specs.declared.instruction.Instruction.{Instruction}
 use Rattle.references.specs.Made.{renewed_all}
@@ -33,7 +31,7 @@ use Rattle.instructions.specs.Cycle.{Progress, ended, moved, entering, leaving, 
 use Rattle.memory.proofs.Answers.{accept-then}
 use Rattle.arguments.specs.ArgumentList.{frame_of}
 use Rattle.crossings.specs.Crossing.{entered, left, enter_of, leave_of, leave_check}
-use Rattle.runs.specs.Step.{Act, put, cross, Done, done, resolve, recent_after, decide, commit, execute}
+use Rattle.runs.specs.Step.{Act, cross, Done, done, resolve, recent_after, decide, commit, execute}
 use Rattle.runs.specs.Step.{proceeded}
 use Rattle.runs.specs.Run.{Ran, ran, Ending, halted, spent, crossed, faulted, after, run_from}
 use Rattle.local_runs.specs.LocalRun.{Paused, paused, after_cycle, local_from}
@@ -126,14 +124,14 @@ module _ (stretch : Bool) (limit k n : ℕ) (count : limit - (n + 1) ≡ k) (m :
   cycled next new (ok (leaving p q)) = continued stretch limit m next (event.Leaving p q) (resume_at m next n (event.Leaving p q))
 
   -- a store, by the number of its check
-  stores : (v i : ℕ) (as' : List ℕ) (next : Machine) →
-      after stretch (run_from stretch k (n + 1)) n m words (accept v i >>= (λ j. ok (done next (sets words j as') proceeded)))
-      ≡ after stretch (run_from stretch k (n + 1)) n m (stored words as' (accept v i)) (accept v (done next (stored words as' (accept v i)) proceeded))
-  stores v i as' next = by (eqb v 0)
+  stores : (v i a : ℕ) (next : Machine) →
+      after stretch (run_from stretch k (n + 1)) n m words (accept v i >>= (λ j. ok (done next (set words j a) proceeded)))
+      ≡ after stretch (run_from stretch k (n + 1)) n m (stored words a (accept v i)) (accept v (done next (stored words a (accept v i)) proceeded))
+  stores v i a next = by (eqb v 0)
     where
       by : (t : Bool) →
-          after stretch (run_from stretch k (n + 1)) n m words ((if t then ok i else refuse v) >>= (λ j. ok (done next (sets words j as') proceeded)))
-          ≡ after stretch (run_from stretch k (n + 1)) n m (stored words as' (if t then ok i else refuse v)) (if t then ok (done next (stored words as' (if t then ok i else refuse v)) proceeded) else refuse v)
+          after stretch (run_from stretch k (n + 1)) n m words ((if t then ok i else refuse v) >>= (λ j. ok (done next (set words j a) proceeded)))
+          ≡ after stretch (run_from stretch k (n + 1)) n m (stored words a (if t then ok i else refuse v)) (if t then ok (done next (stored words a (if t then ok i else refuse v)) proceeded) else refuse v)
       by true = refl
       by false = refl
 
@@ -146,49 +144,23 @@ module _ (stretch : Bool) (limit k n : ℕ) (count : limit - (n + 1) ≡ k) (m :
       by true = refl
       by false = refl
 
-  -- a block, by the answers of its read and of its target's check
-  copies : (x : Answer (List ℕ)) (y : List ℕ → Answer ℕ) (r : Registers) (pointers : List Pointer) (new : List Register) →
-      after stretch (run_from stretch k (n + 1)) n m words (x >>= (λ vs. y vs >>= (λ i. ok (done (with_parts m r pointers new) (sets words i vs) proceeded))))
-      ≡ cycled (words_after words (x >>= (λ vs. y vs >>= (λ i. ok (sets words i vs))))) new ((x >>= (λ vs. y vs >>= (λ i. ok (sets words i vs)))) >>= (λ next. ok (moved r pointers)))
-  copies (refuse f) y r pointers new = refl
-  copies (ok vs) y r pointers new = by (y vs)
-    where
-      by : (z : Answer ℕ) →
-          after stretch (run_from stretch k (n + 1)) n m words (z >>= (λ i. ok (done (with_parts m r pointers new) (sets words i vs) proceeded)))
-          ≡ cycled (words_after words (z >>= (λ i. ok (sets words i vs)))) new ((z >>= (λ i. ok (sets words i vs))) >>= (λ next. ok (moved r pointers)))
-      by (refuse f) = refl
-      by (ok i) = refl
-
   -- an instruction whose plan is known, with the registers after its references and the place of its indirect word
   by-plan : in_use m.depth ≡ m.depth → (new : List Register) (q : Pointer) (plan : Answer Plan) →
-      after stretch (run_from stretch k (n + 1)) n m words (plan >>= resolve m (read_word m words) (read_run m words) new q >>= commit m words)
+      after stretch (run_from stretch k (n + 1)) n m words (plan >>= resolve m (read_word m words) new q >>= commit m words)
       ≡ cycled (settled_words m.layout.lengths m.layout.rights bases words m.recent depth frame m.registers m.pointers plan) new
       (plan >>= settled m.layout.lengths m.layout.rights bases words m.recent depth frame m.registers m.pointers q)
-  unfolding commit check_run written_run reference_run copied_of enter_of leave_of read_word read_run
+  unfolding commit check written_of reference_of enter_of leave_of read_word
   by-plan u new q (refuse f) = refl
   by-plan u new q (ok halt) = refl
   by-plan u new q (ok (move a s w ps)) = refl
   by-plan u new q (ok (store p v)) =
-      rw u (rw u at (stores verdict (index_of bases p.segment p.word) (v ∷ []) (with_parts m on m.pointers new) ∙ accepted-cycle verdict on m.pointers new _))
+      rw u (rw u at (stores verdict (index_of bases p.segment p.word) v (with_parts m on m.pointers new) ∙ accepted-cycle verdict on m.pointers new _))
     where
       verdict : ℕ
       verdict = verdict_of m.layout.lengths m.layout.rights m.registers.domain m.recent (in_use m.depth) frame access.Write p
 
       on : Registers
       on = moved_registers m.registers m.registers.a m.registers.segment (m.registers.word + 1)
-  by-plan u new q (ok (copy p t c)) = rw u (rw u at (by (read_run_of m.layout.lengths m.layout.rights bases words m.registers.domain m.recent (in_use m.depth) frame p c)))
-    where
-      on : Registers
-      on = moved_registers m.registers m.registers.a m.registers.segment (m.registers.word + 1)
-
-      checked : List ℕ → Answer ℕ
-      checked vs = reference_run m.layout.lengths m.layout.rights bases m.registers.domain m.recent (in_use m.depth) frame access.Write t (length vs)
-
-      by : (x : Answer (List ℕ)) →
-          after stretch (run_from stretch k (n + 1)) n m words ((x >>= (λ vs. ok (put t vs new))) >>= commit m words)
-          ≡ cycled (words_after words (x >>= (λ vs. checked vs >>= (λ i. ok (sets words i vs))))) new ((x >>= (λ vs. checked vs >>= (λ i. ok (sets words i vs)))) >>= (λ next. ok (moved on m.pointers)))
-      by (refuse f) = refl
-      by (ok vs) = copies (ok vs) checked on m.pointers new
   by-plan u new q (ok (enter p)) =
       rw u (rw u at (enters u p (frame_of (read_of m.layout.lengths m.layout.rights bases words m.registers.domain m.recent (in_use m.depth) frame) (get_or m.pointers 0 no_pointer) (get_or m.pointers 1 no_pointer) m.registers.domain (in_use m.depth) frame)))
   by-plan u new q (ok (leave p)) =
@@ -205,7 +177,7 @@ module _ (stretch : Bool) (limit k n : ℕ) (count : limit - (n + 1) ≡ k) (m :
 
   -- the registers after its references
   abbrev new_at : List Register
-  new_at = renewed_all m.recent depth frame (made_of (read_of m.layout.lengths m.layout.rights bases words m.registers.domain m.recent depth frame) m.registers.a m.pointers fetched_at)
+  new_at = renewed_all m.recent depth frame (made_of (read_of m.layout.lengths m.layout.rights bases words m.registers.domain m.recent depth frame) m.pointers fetched_at)
 
   -- a run of at least one instruction, as its cycle tells
   pub run-cycled : in_use m.depth ≡ m.depth → run_from stretch (suc k) n m words ≡ cycled words_at new_at cycle_at

@@ -6,7 +6,6 @@ use mathlib.Core.List.{List}
 use mathlib.Core.Path.{◌≡◌, refl, sym, ap, ◌∙◌}
 use borrow.Author.Tests.{ltb-true}
 use lib.Dec.{eqb, ltb, leb}
-use lib.ListN.{get_or}
 use Rattle.words.specs.Answer.{Answer, refuse, ok, ◌>>=◌, ◌>>◌, require, if◌then◌else◌}
 use Rattle.words.specs.InstructionWord.{instruction_of}
 use Rattle.words.specs.declared.pointer.Pointer.{Pointer}
@@ -19,13 +18,12 @@ use Rattle.references.specs.Static.{exists, rights_of}
 use Rattle.references.specs.Reference.{accept}
 use Rattle.memory.specs.Reader.{Reader, read_of, fetch_of}
 use Rattle.addressing.specs.Effective.{effective_of}
-use Rattle.instructions.specs.Plan.{Plan, halt, move, store, copy, enter, leave}
-use Rattle.instructions.specs.Instruction.{jump_of, call_of, return_of, load_of, branch_of, move_of, is_load, is_store, taken_of, effect_of, execute_of, plan_of}
+use Rattle.instructions.specs.Plan.{Plan, halt, move, store, enter, leave}
+use Rattle.instructions.specs.Instruction.{jump_of, call_of, return_of, load_of, branch_of, is_load, is_store, taken_of, effect_of, execute_of, plan_of}
 use Rattle.transfers.specs.Transfer.{call_way, jump_check}
 use Rattle.pointer_registers.specs.Stack.{with_base, stack_of}
 use Rattle.instructions.specs.Cycle.{Progress, ended, moved, entering, leaving, settled, cycle_of, planned}
-use Rattle.state.specs.Record.{no_pointer, of_segment}
-use Rattle.blocks.specs.Block.{block_check}
+use Rattle.state.specs.Record.{of_segment}
 
 module _ (depth : ℕ) where
   -- entering needs a frame free
@@ -34,7 +32,6 @@ module _ (depth : ℕ) where
   Free (ok halt) = Unit {0}
   Free (ok (move a s w ps)) = Unit {0}
   Free (ok (store p v)) = Unit {0}
-  Free (ok (copy p t n)) = Unit {0}
   Free (ok (enter p)) = depth < 8
   Free (ok (leave p)) = Unit {0}
 
@@ -45,10 +42,6 @@ module _ (depth : ℕ) where
   then-free : {A : Type 0} (a : Answer A) (f : A → Answer Plan) → ((x : A) → Free (f x)) → Free (a >>= f)
   then-free (refuse n) f h = tt
   then-free (ok x) f h = h x
-
-  past-free : {A : Type 0} (a : Answer A) (p q : Pointer) (n : ℕ) → Free (a >> ok (copy p q n))
-  past-free (refuse k) p q n = tt
-  past-free (ok x) p q n = tt
 
   accept-free : (n a s w : ℕ) (ps : List Pointer) → Free (accept n (move a s w ps))
   accept-free n a s w ps = either-free (eqb n 0) (ok (move a s w ps)) (refuse n) tt tt
@@ -87,20 +80,15 @@ module _ (depth : ℕ) where
     unfolding branch_of
     branch-free t p = either-free t (jump_of lengths gates rights stacks depth r pointers p) _ (jump-free p) tt
 
-    move-free : (p q : Pointer) → Free (move_of lengths gates rights stacks depth r pointers p q)
-    unfolding move_of
-    move-free p q = past-free (block_check r.a p q) p q r.a
-
     effect-free : (opcode register : ℕ) (p : Pointer) → Free (effect_of lengths gates rights stacks depth r pointers read opcode register p)
     unfolding effect_of
     effect-free opcode register p =
         either-free (is_load opcode) _ _ (load-free opcode p)
         (either-free (is_store opcode) _ _ tt
-        (either-free (eqb opcode 13) _ _ (move-free p (get_or pointers register no_pointer))
         (either-free (eqb opcode 5) _ _ tt
         (either-free (eqb opcode 7) _ _ (jump-free p)
         (either-free (eqb opcode 8) _ _ (call-free p)
-        (either-free (eqb opcode 9) _ _ (return-free p) (branch-free (taken_of opcode r.a) p)))))))
+        (either-free (eqb opcode 9) _ _ (return-free p) (branch-free (taken_of opcode r.a) p))))))
 
     execute-free : (i : Instruction) → Free (execute_of lengths gates rights stacks depth r pointers read i)
     unfolding execute_of

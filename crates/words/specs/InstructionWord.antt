@@ -8,16 +8,16 @@ use Rattle.words.specs.declared.instruction.Instruction.{Instruction}
 use Rattle.words.specs.declared.instruction.InstructionAnswer.{InstructionAnswer}
 use Rattle.words.specs.declared.instruction.InstructionAnswer.TheVariants as variant
 
--- each opcode's zero mask, HALT LOAD STORE ADD SUB EPP SPP JUMP CALL RET JZ JM LIT MOVE
+-- each opcode's zero mask, HALT LOAD STORE ADD SUB EPP SPP JUMP CALL RET JZ JM LIT
 abbrev pub masks : List ℕ
 masks =
     0x00FFFFFF ∷ 0x00FF0000 ∷ 0x00FF0000 ∷ 0x00FF0000 ∷ 0x00FF0000 ∷ 0x00F80000 ∷ 0x00F80000 ∷
-    0x00FF0000 ∷ 0x00FF0000 ∷ 0x00FF0000 ∷ 0x00FF0000 ∷ 0x00FF0000 ∷ 0x00FFF000 ∷ 0x00F80000 ∷ []
+    0x00FF0000 ∷ 0x00FF0000 ∷ 0x00FF0000 ∷ 0x00FF0000 ∷ 0x00FF0000 ∷ 0x00FFF000 ∷ []
 
 -- the instruction that a word holds
 unfoldable pub instruction_of : ℕ → Answer Instruction
 instruction_of w =
-    require (nat_le (field 24 8 w) 13) bad_instruction >>
+    require (nat_le (field 24 8 w) 12) bad_instruction >>
     require (common 32 w (slice_index masks (field 24 8 w)) == 0) bad_instruction >>
     ok (record {
       offset = signed_of (field 0 12 w);

@@ -88,7 +88,3 @@ no_free_frame = 31
 -- tagged RET with no frame or another place or s
 abbrev pub bad_return : ℕ
 bad_return = 32
-
--- a count outside 1-64
-abbrev pub bad_count : ℕ
-bad_count = 33

@@ -48,15 +48,7 @@ fn decode_under(word: u32, mask: u32) -> InstructionAnswer
     })
 }
 
-// The instruction that a word of EPP, SPP or MOVE holds.
-fn decode_pointed(word: u32) -> InstructionAnswer
-    requires { HasMask word 0x00F80000 }
-    ensures { instruction_answer result ≡ instruction_of word }
-{
-    decode_under(word, 0x00F80000)
-}
-
-// The instruction that a word holds. MOVE is told last, so that no other instruction pays for it.
+// The instruction that a word holds.
 pub fn decode(word: u32) -> InstructionAnswer
     ensures { instruction_answer result ≡ instruction_of word }
 {
@@ -67,15 +59,9 @@ pub fn decode(word: u32) -> InstructionAnswer
         // LOAD, STORE, ADD, SUB; JUMP, CALL, RET, JZ, JM
         1..=4 | 7..=11 => decode_under(word, 0x00FF0000),
         // EPP, SPP
-        5 | 6 => decode_pointed(word),
+        5 | 6 => decode_under(word, 0x00F80000),
         // LIT
         12 => decode_under(word, 0x00FFF000),
-        _ => {
-            // MOVE
-            if opcode == 13 {
-                return decode_pointed(word);
-            }
-            InstructionAnswer::Refused(27)
-        }
+        _ => InstructionAnswer::Refused(27),
     }
 }

@@ -120,11 +120,6 @@ pub fn lit(offset: i32) -> Code {
     code(12, 0, 0, offset)
 }
 
-/// MOVE register,base|offset.
-pub fn move_words(register: u32, base: u32, offset: i32) -> Code {
-    code(13, register, base, offset)
-}
-
 /// An untagged pointer word.
 pub fn pointer(segment: u32, word: u32) -> u32 {
     assert!(segment < 16 && word < 4096, "no such pointer");

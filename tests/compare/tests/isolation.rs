@@ -21,8 +21,6 @@ fn stretches_depend_on_visible_words_only() {
     assert!(met.lists_uncovered > 100, "{met}");
     assert!(met.lists_failing > 50, "{met}");
     assert!(met.written_unseen > 150, "{met}");
-    let [moved, shown] = met.moved();
-    assert!(moved > 300 && shown > 50, "{met}");
 }
 
 /// How many of 500 stretches break the claim under a visibility.

@@ -26,7 +26,7 @@ fn the_logs_agree() {
     assert!(tally.left_in_frames >= 500, "frames in use\n{tally}");
     let far = [tally.far_crossings, tally.far_calls, tally.high_segments];
     assert!(far.iter().all(|&count| count >= 500), "far\n{tally}");
-    for number in (7..=9).chain(21..=33) {
+    for number in (7..=9).chain(21..=32) {
         assert!(tally.of(number) >= 20, "few of {number}\n{tally}");
     }
     let short_records = tally.of(8) - tally.short_logs;

@@ -23,9 +23,6 @@ fn with_and_without_registers_all_is_the_same() {
         assert!(count >= 30, "{what}\n{tally}");
     }
     assert_eq!(recents.impossible(), 0, "{tally}");
-    for (what, count) in tally.reached.moves.named() {
-        assert!(count >= 20, "{what}\n{tally}");
-    }
 }
 
 /// Both sides of a machine in the middle of a run.

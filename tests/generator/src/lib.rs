@@ -7,7 +7,6 @@ mod dead_gates;
 mod far_gates;
 pub mod handed_on;
 pub mod lent;
-pub mod moved;
 mod mutate;
 mod random;
 mod reached;
@@ -68,17 +67,16 @@ pub fn damaged_image(seed: u64, index: u64) -> Vec<u8> {
 /// An image that the reader accepts.
 pub fn program(rng: &mut Rng) -> ImageBuilder {
     let mut image = match rng.below(100) {
-        0..=9 => call_tree::build(rng),
-        10..=26 => recent::build(rng),
-        27..=44 => handed_on::build(rng),
-        45..=69 => moved::build(rng),
-        70..=72 => far_gates::build(rng),
-        73..=75 => call_loop::build(rng),
-        76 | 77 => templates::counting_loop(rng),
-        78..=81 => templates::endless_calls(rng),
-        82..=86 => templates::relay(rng),
-        87..=91 => templates::two_sources(rng),
-        92..=96 => templates::edges(rng),
+        0..=24 => call_tree::build(rng),
+        25..=40 => recent::build(rng),
+        41..=56 => handed_on::build(rng),
+        57..=60 => far_gates::build(rng),
+        61..=64 => call_loop::build(rng),
+        65..=70 => templates::counting_loop(rng),
+        71..=76 => templates::endless_calls(rng),
+        77..=81 => templates::relay(rng),
+        82..=89 => templates::two_sources(rng),
+        90..=96 => templates::edges(rng),
         _ => templates::random_code(rng),
     };
     if rng.chance(14) {

@@ -1,7 +1,6 @@
 //! What a batch of images reached when the reference ran them.
 
-use crate::handed_on::{self, effective_pointer, HandedOn};
-use crate::moved::Moves;
+use crate::handed_on::{self, HandedOn};
 use crate::recent::Recents;
 use crate::records::fetch_check;
 use crate::DeadGates;
@@ -24,12 +23,12 @@ pub const REFUSALS: [u8; 7] = [1, 2, 3, 4, 5, 6, 10];
 pub struct Reached {
     pub images: u64,
     /// Completed instructions by opcode.
-    pub completed: [u64; OPCODES.len()],
-    /// Faults 21 to 33.
-    pub faults: [u64; 13],
+    pub completed: [u64; 13],
+    /// Faults 21 to 32.
+    pub faults: [u64; 12],
     /// Faults by opcode; the last row is for words that are no instruction
     /// or could not be fetched.
-    pub faults_at: [[u64; 13]; OPCODES.len() + 1],
+    pub faults_at: [[u64; 12]; 14],
     /// Fetches that gave 22.
     pub fetches_without_execute: u64,
     /// Images by what was done to their gates.
@@ -48,8 +47,6 @@ pub struct Reached {
     pub handed_on: HandedOn,
     /// Runs by what they did with the registers.
     pub recents: Recents,
-    /// Runs by what their moves came to.
-    pub moves: Moves,
     pub passed_on: u64,
     pub tagged_indirect: u64,
     /// Runs by the most frames that were in use.
@@ -64,14 +61,6 @@ pub struct Reached {
     pub faults_after_crossing: u64,
     /// Runs that crossed and ended with frames in use.
     pub left_in_frames: u64,
-}
-
-/// What is counted in one run.
-#[derive(Default)]
-struct InRun {
-    handed_on: HandedOn,
-    recents: Recents,
-    moves: Moves,
 }
 
 impl Reached {
@@ -110,7 +99,7 @@ impl Reached {
         let first_words = first_words(machine);
         let mut processor = Processor::new(machine, memory)?;
         let (mut count, mut frames, mut crossings) = (0, 0, 0);
-        let mut in_run = InRun::default();
+        let mut in_run = (HandedOn::default(), Recents::default());
         let mut ending = Ending::Spent;
         while count < limit && ending == Ending::Spent {
             let outcome = self.observe_step(&mut processor, &first_words, &mut in_run);
@@ -126,9 +115,9 @@ impl Reached {
             count += u16::from(ending.fault() == 0);
             frames = frames.max(processor.machine().frame_count);
         }
-        self.handed_on.add_run(&in_run.handed_on);
-        self.recents.add_run(in_run.recents);
-        self.moves.add_run(in_run.moves);
+        let (handed_on, recents) = in_run;
+        self.handed_on.add_run(&handed_on);
+        self.recents.add_run(recents);
         self.count_ending(ending, count, frames);
         self.count_crossings(crossings, ending, processor.machine());
         Ok(Run { ending, count })
@@ -162,32 +151,30 @@ impl Reached {
         &mut self,
         processor: &mut Processor,
         first_words: &[usize; SEGMENTS],
-        in_run: &mut InRun,
+        (handed_on, recents): &mut (HandedOn, Recents),
     ) -> Result<Completed, Fault> {
         let at = processor.machine().location;
         let address = first_words[usize::from(at.segment)] + usize::from(at.word);
         let word = processor.memory().get(address).copied().unwrap_or(0);
+        let pointers = processor.machine().pointers;
         let fetch = fetch_check(processor.machine());
         self.fetches_without_execute += u64::from(fetch == Err(Fault::FlagMissing));
         let instruction = fetch.and_then(|()| Instruction::from_word(word));
         let Ok(instruction) = instruction else {
             let outcome = processor.step();
-            self.count_fault(outcome.err(), OPCODES.len());
+            self.count_fault(outcome.err(), 13);
             return outcome;
         };
         let machine = processor.machine().clone();
         let before = handed_on::Before::new(&machine, processor.memory(), instruction);
-        let pointer = effective_pointer(&machine, processor.memory(), instruction);
         let outcome = processor.step();
-        in_run.handed_on.count(before, outcome);
-        let InRun { recents, moves, .. } = in_run;
+        handed_on.count(before, outcome);
         recents.count(&machine, instruction, outcome, processor);
-        moves.count(&machine, instruction, pointer, outcome, processor);
         let opcode = instruction.opcode as usize;
         self.count_fault(outcome.err(), opcode);
         let completed = outcome?;
         self.completed[opcode] += 1;
-        let tagged = machine.pointers[usize::from(instruction.base)].tag;
+        let tagged = pointers[usize::from(instruction.base)].tag;
         self.tagged_indirect += u64::from(instruction.indirect && tagged);
         match completed {
             Completed::Called => self.count_call(processor, first_words),
@@ -224,7 +211,7 @@ impl Reached {
         row(out, "crossing calls by arguments", 0.., &self.calls)?;
         row(out, "runs by most frames in use", 0.., &self.frames)?;
         writeln!(out, "calls inside a domain {}", self.calls_inside)?;
-        write!(out, "{}{}{}", self.handed_on, self.recents, self.moves)?;
+        write!(out, "{}{}", self.handed_on, self.recents)?;
         writeln!(out, "tagged returns {}", self.tagged_returns)?;
         writeln!(out, "passed-on arguments {}", self.passed_on)?;
         writeln!(out, "tagged indirect reads {}", self.tagged_indirect)

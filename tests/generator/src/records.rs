@@ -6,8 +6,8 @@ use crate::recent::{fill, mend};
 use assembler::E;
 use reference::checks::{static_check, Flag};
 use reference::record::{Capability, Frame, Machine, CAPABILITIES, FRAMES, SEGMENTS};
-use reference::words::{Pointer, WordRun};
-use reference::{is_sound, read_image, run, Ending, Fault, MEMORY_WORDS};
+use reference::words::Pointer;
+use reference::{is_sound, read_image, run, Fault, MEMORY_WORDS};
 
 /// A machine with its memory.
 #[derive(Clone, Debug)]
@@ -17,7 +17,7 @@ pub struct Snapshot {
 }
 
 /// A machine as a run left it after a random number of instructions. Most
-/// have a live frame, and most can go on.
+/// have a live frame.
 pub fn mid_run(rng: &mut Rng) -> Snapshot {
     loop {
         let mut machine = Machine::default();
@@ -26,30 +26,11 @@ pub fn mid_run(rng: &mut Rng) -> Snapshot {
         if read_image(&image, &mut machine, &mut memory).is_err() {
             continue;
         }
-        let snapshot = part_of_a_run(rng, Snapshot { machine, memory });
-        if snapshot.machine.frame_count > 0 || rng.chance(20) {
-            return snapshot;
+        let limit = rng.below(120) as u16;
+        let ran = run(&mut machine, &mut memory, limit).is_ok();
+        if ran && (machine.frame_count > 0 || rng.chance(20)) {
+            return Snapshot { machine, memory };
         }
-    }
-}
-
-/// A fresh machine after some instructions, mostly fewer than lead to a fault.
-fn part_of_a_run(rng: &mut Rng, fresh: Snapshot) -> Snapshot {
-    let after = |limit| {
-        let Snapshot {
-            mut machine,
-            mut memory,
-        } = fresh.clone();
-        let ran = run(&mut machine, &mut memory, limit).expect("a sound record");
-        (ran, Snapshot { machine, memory })
-    };
-    let (ran, snapshot) = after(rng.below(120) as u16);
-    match ran.ending {
-        Ending::Faulted(_) if rng.chance(70) => {
-            let fewer = rng.below(u32::from(ran.count) + 1) as u16;
-            after(fewer).1
-        }
-        _ => snapshot,
     }
 }
 
@@ -95,8 +76,7 @@ fn take_execute(machine: &mut Machine) {
 /// The check that the next fetch makes.
 pub(crate) fn fetch_check(machine: &Machine) -> Result<(), Fault> {
     let at = machine.location;
-    let word = WordRun::one(at.segment, at.word);
-    static_check(machine, machine.domain, word, Flag::Execute)
+    static_check(machine, machine.domain, at.segment, at.word, Flag::Execute)
 }
 
 /// Puts the location at a word that the domain may execute; gives where that

@@ -273,7 +273,7 @@ pub fn random_code(rng: &mut Rng) -> ImageBuilder {
 fn random_instruction(rng: &mut Rng) -> u32 {
     let base = rng.pick(&[B, B, B, A, 4, 5]);
     let offset = rng.below(40) as i32;
-    let code = match rng.below(15) {
+    let code = match rng.below(14) {
         0 | 1 => load(base, offset),
         2 => store(base, offset),
         3 => add(base, offset),
@@ -285,7 +285,6 @@ fn random_instruction(rng: &mut Rng) -> u32 {
         10 => ret(base, offset),
         11 => jz(base, offset),
         12 => jm(base, offset),
-        13 => move_words(rng.pick(&[A, S, 4, 5]), base, offset),
         _ => return lit(offset).word(),
     };
     if rng.chance(40) {

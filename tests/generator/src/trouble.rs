@@ -119,9 +119,9 @@ fn no_capability(rng: &mut Rng, part: &mut Subsystem, index: usize) {
 
 fn bad_instruction(rng: &mut Rng, part: &mut Subsystem) {
     let word = match rng.below(4) {
-        0 => rng.between(14, 255) << 24,
+        0 => rng.between(13, 255) << 24,
         1 => 1 << rng.below(24),
-        2 => rng.between(1, 13) << 24 | 1 << rng.between(19, 23),
+        2 => rng.between(1, 12) << 24 | 1 << rng.between(19, 23),
         _ => lit(0).word() | 1 << rng.between(12, 23),
     };
     part.code.word(word);

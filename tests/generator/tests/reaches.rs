@@ -4,14 +4,13 @@
 use assembler::E;
 use generator::handed_on::{about_to_hand_on, next_list, Found, HandedOn, UNCOVERED};
 use generator::lent::{self, Lent};
-use generator::moved::{about_to_move, Moves};
 use generator::recent::{about_to_refer, spoil_a_register, Recents};
 use generator::records::{self, Snapshot};
 use generator::{image, made, made_damaged, DeadGate, DeadGates, Made};
 use generator::{Reached, Rng, DEAD_GATES, LIMIT, REFUSALS};
 use reference::recent::REGISTERS;
 use reference::record::Domain;
-use reference::words::{Opcode, OPCODES};
+use reference::words::OPCODES;
 use reference::{host, is_sound, machine_from_bytes, record_bytes, run, step, Machine, Refusal};
 
 #[test]
@@ -48,13 +47,7 @@ fn a_batch_reaches_every_part() {
     assert!(reached.tagged_indirect >= 1000, "tagged indirect reads");
     reaches_handed_on_lists(&reached.handed_on);
     reaches_the_registers(&reached.recents);
-    reaches_moves(&reached.moves);
     assert!(2 * reached.twenty > reached.images, "twenty instructions");
-    reaches_crossings(&reached);
-}
-
-/// Runs must cross seldom and often, and end in each way after that.
-fn reaches_crossings(reached: &Reached) {
     for (bucket, count) in reached.crossings.iter().enumerate() {
         assert!(*count >= 300, "crossings, bucket {bucket}: {count}");
     }
@@ -84,13 +77,7 @@ fn reaches_handed_on_lists(handed_on: &HandedOn) {
 }
 
 /// What fewer than 1,000 of 100,000 images do, and how many of 20,000 must.
-const SELDOM: [(&str, u64); 10] = [
-    ("23 after an indirect word", 100),
-    ("33 after an indirect word", 100),
-    ("21 after the source of a MOVE", 100),
-    ("22 after the source of a MOVE", 100),
-    ("24 after the source of a MOVE", 100),
-    ("25 after the source of a MOVE", 100),
+const SELDOM: [(&str, u64); 4] = [
     ("a call's list not entered", 20),
     ("25 after words of a list", 80),
     ("26 after words of a list", 30),
@@ -106,14 +93,6 @@ fn reaches_the_registers(recents: &Recents) {
         assert!(count >= least, "{what}: {count}");
     }
     assert_eq!(recents.impossible(), 0, "faults");
-}
-
-/// Of 100,000 images at least 500 must have a MOVE that comes to each thing; here
-/// are 20,000.
-fn reaches_moves(moves: &Moves) {
-    for (what, count) in moves.named() {
-        assert!(count >= 100, "{what}: {count}");
-    }
 }
 
 /// What an image says of its gates.
@@ -476,24 +455,4 @@ fn records_about_to_refer_are_sound_and_reach_the_registers() {
     assert!(recents.older_replaced >= 50, "{recents}");
     assert!(recents.not_entered >= 200, "{recents}");
     assert!(recents.operand_failed() >= 200, "{recents}");
-}
-
-#[test]
-fn records_about_to_move_are_sound_and_come_to_all() {
-    let mut rng = Rng::new(22, 0);
-    let mut reached = Reached::default();
-    for _ in 0..20_000 {
-        let mut start = about_to_move(&mut rng);
-        assert!(is_sound(&start.machine));
-        let ran = reached.observe_run(&mut start.machine, &mut start.memory, 1, false);
-        assert!(ran.is_ok());
-    }
-    println!("{}", reached.moves);
-    let completed = reached.completed[Opcode::Move as usize];
-    let faults: u64 = reached.faults_at[Opcode::Move as usize].iter().sum();
-    assert_eq!(completed + faults, 20_000);
-    assert!(completed >= 2000, "{completed}");
-    for (what, count) in reached.moves.named() {
-        assert!(count >= 50, "{what}: {count}");
-    }
 }

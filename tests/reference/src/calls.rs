@@ -1,6 +1,6 @@
 //! Transfers: JUMP, CALL with its argument list, and RET.
 
-use crate::checks::{has_flag, pass_on, static_check, words_exist, Flag};
+use crate::checks::{has_flag, pass_on, static_check, word_exists, Flag};
 use crate::instructions::Completed;
 use crate::numbers::Fault;
 use crate::recent;
@@ -21,7 +21,13 @@ impl Processor<'_> {
             return Err(Fault::TaggedTransfer);
         }
         let domain = self.machine.domain;
-        static_check(self.machine, domain, target.one(), Flag::Execute)?;
+        static_check(
+            self.machine,
+            domain,
+            target.segment,
+            target.word,
+            Flag::Execute,
+        )?;
         self.go_to(target);
         Ok(Completed::Plain)
     }
@@ -31,7 +37,7 @@ impl Processor<'_> {
         if target.tag {
             return Err(Fault::TaggedTransfer);
         }
-        if !words_exist(self.machine, target.one()) {
+        if !word_exists(self.machine, target.segment, target.word) {
             return Err(Fault::NoSuchWord);
         }
         let domain = self.machine.domain;
@@ -151,7 +157,13 @@ impl Processor<'_> {
             return Err(Fault::BadReturn);
         }
         let (s, domain) = (frame.s, frame.domain);
-        static_check(self.machine, domain, target.one(), Flag::Execute)?;
+        static_check(
+            self.machine,
+            domain,
+            target.segment,
+            target.word,
+            Flag::Execute,
+        )?;
         let machine = &mut *self.machine;
         if self.uses_registers {
             let registers = self.renewed.get_or_insert(machine.recent);

@@ -11,7 +11,7 @@ use crate::numbers::Refusal;
 use crate::recent::{self, Reference};
 use crate::record::Machine;
 use crate::run::{self, Processor, Run};
-use crate::words::WordRun;
+use crate::words::Pointer;
 
 pub use crate::report::entry;
 
@@ -152,11 +152,11 @@ pub fn check(record: &[u8], write: u8, tag: u8, segment: u8, word: u16) -> u32 {
     };
     let tag = tag != 0;
     let flag = if write == 0 { Flag::Read } else { Flag::Write };
-    let run = WordRun::one(segment, word);
+    let pointer = Pointer { tag, segment, word };
     let mut copy = machine.recent;
     let checked = match tag {
-        true => recent::refer(&machine, &mut copy, Reference { run, flag }),
-        false => check_reference(&machine, false, run, flag),
+        true => recent::refer(&machine, &mut copy, Reference::new(pointer, flag)),
+        false => check_reference(&machine, pointer, flag),
     };
     match checked {
         Err(fault) => REFUSED + u32::from(fault.number()),

@@ -1,9 +1,9 @@
-//! The fourteen instructions.
+//! The thirteen instructions.
 
 use crate::checks::{static_check, Flag};
 use crate::numbers::Fault;
 use crate::run::Processor;
-use crate::words::{Instruction, Opcode, Pointer, WordRun};
+use crate::words::{Instruction, Opcode, Pointer};
 
 /// What a completed instruction was.
 #[derive(Clone, Copy, Debug, PartialEq, Eq)]
@@ -62,8 +62,7 @@ impl Processor<'_> {
     fn fetch(&self) -> Result<Instruction, Fault> {
         let at = self.machine.location;
         let domain = self.machine.domain;
-        let word = WordRun::one(at.segment, at.word);
-        static_check(self.machine, domain, word, Flag::Execute)?;
+        static_check(self.machine, domain, at.segment, at.word, Flag::Execute)?;
         Instruction::from_word(self.memory[self.address(at.segment, at.word)])
     }
 
@@ -80,7 +79,6 @@ impl Processor<'_> {
             Opcode::Sub => self.machine.a = a.wrapping_sub(self.load(pointer)?),
             Opcode::Epp => self.machine.pointers[register] = pointer,
             Opcode::Spp => self.store(pointer, self.machine.pointers[register].to_word())?,
-            Opcode::Move => self.move_words(pointer, self.machine.pointers[register])?,
             Opcode::Jump => return self.jump(pointer),
             Opcode::Call => return self.call(pointer),
             Opcode::Ret => return self.ret(pointer),

@@ -19,10 +19,10 @@ pub mod record;
 pub mod report;
 pub mod run;
 pub mod soundness;
-pub mod visibility;
 pub mod words;
 
 pub use bytes::{machine_from_bytes, record_bytes, RECORD_BYTES};
+pub use checks::{could_write, may_see};
 pub use crossings::{printed_log, LOG_BYTES};
 pub use image::{read_image, segment, segment_number, write_image};
 pub use instructions::Completed;
@@ -31,7 +31,6 @@ pub use record::Machine;
 pub use run::{run, run_without_registers, step, stretch, stretch_without_registers};
 pub use run::{Ending, Processor, Run, Step};
 pub use soundness::is_sound;
-pub use visibility::{could_write, may_see};
 
 /// Fewest words that a memory may have.
 pub const MEMORY_WORDS: usize = 8192;

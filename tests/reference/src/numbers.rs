@@ -62,8 +62,6 @@ pub enum Fault {
     NoFreeFrame = 31,
     /// Tagged RET with no frame, or to another place, or with another s.
     BadReturn = 32,
-    /// MOVE with a count outside 1 to 64.
-    BadCount = 33,
 }
 
 impl Fault {

@@ -7,7 +7,7 @@
 use crate::checks::{first_match, static_check, Flag};
 use crate::numbers::Fault;
 use crate::record::{Capability, Frame, Machine};
-use crate::words::WordRun;
+use crate::words::Pointer;
 
 /// How many registers there are.
 pub const REGISTERS: usize = 16;
@@ -34,15 +34,26 @@ pub fn fresh() -> Registers {
     })
 }
 
-/// A reference through a tagged pointer: to one word, or to a run of a MOVE.
+/// A reference through a tagged pointer.
 #[derive(Clone, Copy, Debug, PartialEq, Eq)]
 pub struct Reference {
-    pub run: WordRun,
+    pub segment: u8,
+    pub word: u16,
     pub flag: Flag,
 }
 
+impl Reference {
+    pub fn new(pointer: Pointer, flag: Flag) -> Reference {
+        Reference {
+            segment: pointer.segment,
+            word: pointer.word,
+            flag,
+        }
+    }
+}
+
 /// The registers that match, the lowest first: each holds a capability of the
-/// live frame that has the flag and covers all words.
+/// live frame that has the flag and covers the word.
 pub fn matches(
     registers: &Registers,
     live: u8,
@@ -52,7 +63,10 @@ pub fn matches(
         let Recent {
             capability, frame, ..
         } = &registers[k];
-        live > 0 && *frame == live && capability.has(made.flag) && capability.covers(made.run)
+        live > 0
+            && *frame == live
+            && capability.has(made.flag)
+            && capability.covers(made.segment, made.word, 1)
     })
 }
 
@@ -68,8 +82,8 @@ pub fn refer(machine: &Machine, registers: &mut Registers, made: Reference) -> R
         return Ok(());
     }
     let frame = machine.live_frame().ok_or(Fault::NoCapability)?;
-    let found =
-        first_match(frame.capabilities(), made.run, made.flag).ok_or(Fault::NoCapability)?;
+    let found = first_match(frame.capabilities(), made.segment, made.word, made.flag)
+        .ok_or(Fault::NoCapability)?;
     source_passes(machine, found, made)?;
     if may_hold(frame, found) {
         enter(registers, *found, live);
@@ -79,7 +93,8 @@ pub fn refer(machine: &Machine, registers: &mut Registers, made: Reference) -> R
 
 /// The source of a match must pass the static check: 25 if not.
 fn source_passes(machine: &Machine, found: &Capability, made: Reference) -> Result<(), Fault> {
-    static_check(machine, found.source, made.run, made.flag).map_err(|_| Fault::SourceFails)
+    static_check(machine, found.source, made.segment, made.word, made.flag)
+        .map_err(|_| Fault::SourceFails)
 }
 
 /// Whether a capability may be entered that comes after these in its frame:

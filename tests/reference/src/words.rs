@@ -55,59 +55,13 @@ impl Pointer {
         })
     }
 
-    /// The word that the pointer names, as a run of one.
-    #[inline(always)]
-    pub fn one(self) -> WordRun {
-        WordRun::one(self.segment, self.word)
-    }
-
-    /// The run of `length` words, at least one, from the pointer on; 23 if the
-    /// last word number is above 4,095.
-    #[inline(always)]
-    pub fn run(self, length: u16) -> Result<WordRun, Fault> {
-        let run = WordRun {
-            length,
-            ..self.one()
-        };
-        if run.end() > u32::from(SEGMENT_WORDS) {
-            return Err(Fault::WordNumber);
-        }
-        Ok(run)
-    }
-
     /// Whether two pointers name the same word, tags aside.
     pub fn same_place(self, other: Pointer) -> bool {
         self.segment == other.segment && self.word == other.word
     }
 }
 
-/// A run of words of a segment: a first word and how many, at least one.
-#[derive(Clone, Copy, Debug, PartialEq, Eq)]
-pub struct WordRun {
-    pub segment: u8,
-    pub word: u16,
-    pub length: u16,
-}
-
-impl WordRun {
-    /// A run of one word.
-    #[inline(always)]
-    pub fn one(segment: u8, word: u16) -> WordRun {
-        WordRun {
-            segment,
-            word,
-            length: 1,
-        }
-    }
-
-    /// The word number after the last.
-    #[inline(always)]
-    pub fn end(self) -> u32 {
-        u32::from(self.word) + u32::from(self.length)
-    }
-}
-
-/// The fourteen operations, in the order of their opcodes.
+/// The thirteen operations, in the order of their opcodes.
 #[derive(Clone, Copy, Debug, PartialEq, Eq)]
 #[repr(u8)]
 pub enum Opcode {
@@ -124,11 +78,10 @@ pub enum Opcode {
     Jz,
     Jm,
     Lit,
-    Move,
 }
 
 /// All operations; the index is the opcode.
-pub const OPCODES: [Opcode; 14] = [
+pub const OPCODES: [Opcode; 13] = [
     Opcode::Halt,
     Opcode::Load,
     Opcode::Store,
@@ -142,7 +95,6 @@ pub const OPCODES: [Opcode; 14] = [
     Opcode::Jz,
     Opcode::Jm,
     Opcode::Lit,
-    Opcode::Move,
 ];
 
 /// Zero mask of an operation without operands.
@@ -160,7 +112,7 @@ impl Opcode {
     pub fn zero_mask(self) -> u32 {
         match self {
             Opcode::Halt => MASK_BARE,
-            Opcode::Epp | Opcode::Spp | Opcode::Move => MASK_REGISTER,
+            Opcode::Epp | Opcode::Spp => MASK_REGISTER,
             Opcode::Lit => MASK_OFFSET,
             _ => MASK_ADDRESS,
         }

@@ -39,42 +39,33 @@ fn is_allowed(file: &str) -> bool {
     file.starts_with("src/") || file.starts_with("specs/")
 }
 
-/// Makes one replacement in a text, or says why not.
-fn replaced(text: &str, one: &Replacement) -> Result<String, String> {
+/// Makes one replacement after the ones before it, or says why not.
+fn replace(texts: &mut BTreeMap<String, String>, one: &Replacement) -> Result<(), String> {
     let Replacement { file, old, new } = one;
+    if !is_allowed(file) {
+        return Err(format!("'{file}' is not under src/ or specs/"));
+    }
+    let text = texts.get_mut(file).ok_or(format!("there is no {file}"))?;
     match text.matches(&old[..]).count() {
-        1 if old == new => Err(format!("'{old}' stays as it is")),
-        1 => Ok(text.replacen(&old[..], new, 1)),
-        count => Err(format!("'{old}' occurs {count} times in {file}")),
+        1 => *text = text.replacen(&old[..], new, 1),
+        count => return Err(format!("'{old}' occurs {count} times in {file}")),
     }
-}
-
-/// The files of a crate that an edit changes, with their new texts, or why it can't be made.
-/// `text` gives the files by their paths in the crate's folder.
-pub fn edited(
-    edit: &File,
-    text: impl Fn(&str) -> Option<String>,
-) -> Result<BTreeMap<String, String>, String> {
-    let mut texts = BTreeMap::new();
-    for one in replacements(&edit.text)? {
-        let file = &one.file;
-        if !is_allowed(file) {
-            return Err(format!("'{file}' is not under src/ or specs/"));
-        }
-        let before = texts.remove(file).or_else(|| text(file));
-        let before = before.ok_or(format!("there is no {file}"))?;
-        texts.insert(file.clone(), replaced(&before, &one)?);
+    if old == new {
+        return Err(format!("'{old}' stays as it is"));
     }
-    Ok(texts)
+    Ok(())
 }
 
 /// What is wrong with an edit of a crate that has these files.
 pub fn fault(edit: &File, files: &[File]) -> Option<String> {
     let folder = format!("crates/{}/", edit.crate_name());
-    let made = edited(edit, |path| {
-        let mut texts = files.iter();
-        let found = texts.find(|file| file.path.strip_prefix(&folder) == Some(path));
-        found.map(|file| file.text.clone())
-    });
+    let texts = files
+        .iter()
+        .filter_map(|file| Some((file.path.strip_prefix(&folder)?, &file.text)));
+    let mut texts = texts
+        .map(|(path, text)| (path.to_string(), text.clone()))
+        .collect();
+    let made = replacements(&edit.text)
+        .and_then(|all| all.iter().try_for_each(|one| replace(&mut texts, one)));
     made.err().map(|reason| format!("{}: {reason}", edit.path))
 }

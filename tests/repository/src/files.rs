@@ -56,15 +56,6 @@ pub fn crate_names(list: &str) -> Vec<String> {
     names.map(|(name, _)| name.to_string()).collect()
 }
 
-/// What a crate uses, by a list of crates.
-pub fn dependencies(list: &str, name: &str) -> Vec<String> {
-    let mut lines = list.lines().filter_map(|line| line.split_once(':'));
-    let used = lines
-        .find(|(of, _)| *of == name)
-        .map_or("", |(_, used)| used);
-    used.split_whitespace().map(str::to_string).collect()
-}
-
 /// The crates of the repository.
 pub fn crates() -> Vec<String> {
     crate_names(&read("crates.txt").text)

@@ -10,7 +10,6 @@ pub mod functions;
 pub mod graph;
 pub mod names;
 pub mod rules;
-pub mod trials;
 
 /// Fails with those against a rule, a line each, if there are any.
 pub fn expect_none(rule: &str, offenders: Vec<String>) {

@@ -4,7 +4,6 @@
 //! Where the proved library is there, each call on a bench is made by it too,
 //! and its answer, record and words must be the reference's.
 
-pub mod moves;
 pub mod registers;
 pub mod relay;
 

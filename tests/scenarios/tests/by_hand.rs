@@ -3,7 +3,7 @@
 use assembler::*;
 use reference::checks::{live_check, pass_on, static_check, Flag};
 use reference::report::entry;
-use reference::words::{Instruction, Mode, Opcode, Pointer, WordRun};
+use reference::words::{Instruction, Mode, Opcode, Pointer};
 use reference::{Ending, Fault};
 use scenarios::*;
 
@@ -74,7 +74,7 @@ fn segment_of_ten_words() {
     for rights in 0..16 {
         let mut bench = world(&[]);
         bench.machine.domains[0].rights[1] = rights;
-        let read = |word| static_check(&bench.machine, 0, WordRun::one(1, word), Flag::Read);
+        let read = |word| static_check(&bench.machine, 0, 1, word, Flag::Read);
         let nine = if rights & R != 0 {
             Ok(())
         } else {
@@ -92,7 +92,7 @@ fn segment_of_ten_words() {
 fn read_capability_on_four_words() {
     let mut bench = world(&[]);
     bench.push_frame(frame(0, &[capability(3, 4, 4, R, 1)]));
-    let check = |word, flag| live_check(&bench.machine, WordRun::one(3, word), flag);
+    let check = |word, flag| live_check(&bench.machine, 3, word, flag);
     assert_eq!(check(4, Flag::Read), Ok(()));
     assert_eq!(check(7, Flag::Read), Ok(()));
     assert_eq!(check(3, Flag::Read), Err(Fault::NoCapability));

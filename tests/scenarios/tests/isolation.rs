@@ -1,12 +1,8 @@
 //! The isolation claim at random, of the reference's stretches.
 
 use compare::isolation::{compare, compare_stretches, Claim, Met, Sees};
-use generator::moved::before_a_move;
-use generator::records::{self, Snapshot};
-use generator::Rng;
+use generator::{records, Rng};
 use reference::checks::{live_check, static_check, Flag};
-use reference::visibility::in_a_live_run;
-use reference::words::WordRun;
 use reference::{host, may_see, Machine};
 
 #[test]
@@ -28,19 +24,16 @@ fn stretches_depend_on_visible_words_only() {
     assert!(met.changed_words > 40_000, "{met}");
     assert!(met.written_unseen > 2000, "{met}");
     assert!(met.instructions > 400_000, "{met}");
-    let [moved, shown] = met.moved();
-    assert!(moved > 5000 && shown > 500, "{met}");
 }
 
-/// How many of 3,000 stretches from such starts break the claim under another
-/// visibility.
-fn broken_under(sees: Sees, start: fn(&mut Rng) -> Snapshot) -> u32 {
+/// How many of 3,000 stretches break the claim under another visibility.
+fn broken_under(sees: Sees) -> u32 {
     let make = host::stretch;
     let mut rng = Rng::new(42, 0);
     let mut met = Met::default();
     let mut broken = 0;
     for _ in 0..3000 {
-        let state = start(&mut rng);
+        let state = records::mid_run(&mut rng);
         let compared = compare(&mut rng, &state, Claim { sees, make }, &mut met);
         broken += u32::from(compared.is_err());
     }
@@ -49,37 +42,26 @@ fn broken_under(sees: Sees, start: fn(&mut Rng) -> Snapshot) -> u32 {
 
 /// Whether the executing domain itself has the flag on an existing word.
 fn own(machine: &Machine, segment: u8, word: u16, flag: Flag) -> bool {
-    static_check(machine, machine.domain, WordRun::one(segment, word), flag).is_ok()
+    static_check(machine, machine.domain, segment, word, flag).is_ok()
 }
 
-/// Whether a word can be read through capabilities, in some run.
+/// Whether a word can be read through a capability.
 fn live(machine: &Machine, segment: u8, word: u16) -> bool {
-    in_a_live_run(machine, WordRun::one(segment, word), Flag::Read)
-}
-
-/// Whether a word can be read by itself or executed.
-fn by_itself(machine: &Machine, segment: u8, word: u16) -> bool {
-    let one = WordRun::one(segment, word);
-    own(machine, segment, word, Flag::Execute)
-        || own(machine, segment, word, Flag::Read)
-        || live_check(machine, one, Flag::Read).is_ok()
+    live_check(machine, segment, word, Flag::Read).is_ok()
 }
 
 #[test]
 fn the_claim_breaks_if_visibility_is_too_small() {
-    assert_eq!(broken_under(may_see, records::mid_run), 0);
-    assert_eq!(broken_under(may_see, before_a_move), 0);
+    assert_eq!(broken_under(may_see), 0);
     let without_execute: Sees = |m, s, w| own(m, s, w, Flag::Read) || live(m, s, w);
     let without_read: Sees = |m, s, w| own(m, s, w, Flag::Execute) || live(m, s, w);
     let without_live: Sees = |m, s, w| own(m, s, w, Flag::Execute) || own(m, s, w, Flag::Read);
-    let mid_run: fn(&mut Rng) -> Snapshot = records::mid_run;
-    for (sees, forgotten, start) in [
-        (without_execute, "execute", mid_run),
-        (without_read, "read", mid_run),
-        (without_live, "live check", mid_run),
-        (by_itself, "runs of two words or more", before_a_move),
+    for (sees, forgotten) in [
+        (without_execute, "execute"),
+        (without_read, "read"),
+        (without_live, "live check"),
     ] {
-        let broken = broken_under(sees, start);
+        let broken = broken_under(sees);
         assert!(broken > 100, "{broken} without {forgotten}");
     }
 }

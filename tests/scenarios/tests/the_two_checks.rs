@@ -2,7 +2,6 @@
 
 use assembler::*;
 use reference::checks::{live_check, static_check, Flag};
-use reference::words::WordRun;
 use reference::{could_write, may_see, Fault};
 use scenarios::*;
 
@@ -12,8 +11,7 @@ fn existence_is_judged_before_rights() {
         let mut bench = world(&[]);
         bench.machine.domains[0].rights[1] = rights;
         for flag in [Flag::Read, Flag::Write, Flag::Execute, Flag::Gate] {
-            let check =
-                |segment, word| static_check(&bench.machine, 0, WordRun::one(segment, word), flag);
+            let check = |segment, word| static_check(&bench.machine, 0, segment, word, flag);
             assert_eq!(check(1, 10), Err(Fault::NoSuchWord));
             assert_eq!(check(5, 0), Err(Fault::NoSuchWord));
             let expected = if rights == 0 {
@@ -95,14 +93,8 @@ fn the_first_match_decides() {
     ] {
         let mut bench = world(&[]);
         bench.push_frame(frame(0, &order));
-        assert_eq!(
-            live_check(&bench.machine, WordRun::one(3, 5), Flag::Read),
-            expected
-        );
-        assert_eq!(
-            live_check(&bench.machine, WordRun::one(3, 5), Flag::Write),
-            expected
-        );
+        assert_eq!(live_check(&bench.machine, 3, 5, Flag::Read), expected);
+        assert_eq!(live_check(&bench.machine, 3, 5, Flag::Write), expected);
     }
 }
 
@@ -123,12 +115,9 @@ fn the_source_needs_the_same_flag_at_use() {
 fn only_the_newest_frame_counts() {
     let mut bench = world(&[]);
     bench.push_frame(frame(0, &[capability(3, 5, 1, R, 1)]));
-    assert_eq!(
-        live_check(&bench.machine, WordRun::one(3, 5), Flag::Read),
-        Ok(())
-    );
+    assert_eq!(live_check(&bench.machine, 3, 5, Flag::Read), Ok(()));
     bench.push_frame(frame(0, &[capability(3, 6, 1, R, 1)]));
-    let now = live_check(&bench.machine, WordRun::one(3, 5), Flag::Read);
+    let now = live_check(&bench.machine, 3, 5, Flag::Read);
     assert_eq!(now, Err(Fault::NoCapability));
 }
 

@@ -117,7 +117,7 @@ fn instruction_text(instruction: Instruction) -> String {
     match opcode {
         Opcode::Halt => mnemonic.to_string(),
         Opcode::Lit => format!("{mnemonic} {offset}"),
-        Opcode::Epp | Opcode::Spp | Opcode::Move => {
+        Opcode::Epp | Opcode::Spp => {
             let register = REGISTERS[usize::from(instruction.register)];
             format!("{mnemonic} {register},{address}")
         }

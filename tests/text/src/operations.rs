@@ -1,4 +1,4 @@
-//! The fourteen mnemonics, the registers and the flags.
+//! The thirteen mnemonics, the registers and the flags.
 
 use assembler::{self as code, Code, E, G, R, W};
 
@@ -16,7 +16,7 @@ pub enum Operation {
 }
 
 /// All mnemonics, in the order of their opcodes.
-pub const OPERATIONS: [(&str, Operation); 14] = [
+pub const OPERATIONS: [(&str, Operation); 13] = [
     ("HALT", Operation::Bare(code::halt)),
     ("LOAD", Operation::Address(code::load)),
     ("STORE", Operation::Address(code::store)),
@@ -30,7 +30,6 @@ pub const OPERATIONS: [(&str, Operation); 14] = [
     ("JZ", Operation::Address(code::jz)),
     ("JM", Operation::Address(code::jm)),
     ("LIT", Operation::Number(code::lit)),
-    ("MOVE", Operation::Register(code::move_words)),
 ];
 
 /// The operation of a mnemonic.

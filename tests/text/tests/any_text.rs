@@ -50,7 +50,6 @@ const PARTS: &[&str] = &[
     "HALT",
     "LOAD",
     "EPP",
-    "MOVE",
     "LIT",
     "a",
     "b",

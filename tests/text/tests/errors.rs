@@ -30,7 +30,7 @@ fn characters_and_numbers() {
 
 #[test]
 fn words_that_mean_nothing() {
-    line_refused("COPY a|1", "unknown word 'COPY'");
+    line_refused("MOVE a|1", "unknown word 'MOVE'");
     line_refused(
         "load a|1",
         "unknown word 'load': the instruction is written LOAD",
@@ -65,7 +65,6 @@ fn operands() {
     line_refused("LOAD a,b|3", "expected '|', found ','");
     line_refused("EPP b|3", "expected ',', found '|'");
     line_refused("EPP 1,b|3", "expected a register, found '1'");
-    line_refused("MOVE b|3", "expected ',', found '|'");
     line_refused("LIT", "expected a number, found the end of the line");
     line_refused("LIT 1,*", "expected the end of the line, found ','");
     for name in ["p8", "p", "A", "p00", "x"] {

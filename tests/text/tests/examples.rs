@@ -62,7 +62,6 @@ fn results_are_as_explained() {
         ("passed_on_for_more", "fault 24", 6, 1, "2 4", 0),
         ("nested_calls", "halted", 21, 0, "0 6", 40),
         ("handed_on_list", "halted", 13, 0, "0 3", 22),
-        ("copied_beats", "halted", 24, 0, "0 3", 92),
     ] {
         let lines = format!("end {end}\ncount {count}\ndomain {domain}\nat {at}\na {a}\n");
         assert_eq!(reference::report::printed(&image(name)), lines, "{name}");
@@ -105,8 +104,6 @@ fn words_changed_by_a_run() {
     assert_eq!(changed("nested_calls"), (stored, 0));
     let stored = vec![(1, 2, 22), (3, 1, 0x8000_1003)];
     assert_eq!(changed("handed_on_list"), (stored, 0));
-    let stored = vec![(1, 5, 92), (3, 0, 20), (3, 1, 32), (3, 2, 16), (3, 3, 24)];
-    assert_eq!(changed("copied_beats"), (stored, 0));
 }
 
 /// The log that the comment of an example explains: what stands before the

@@ -24,7 +24,6 @@ fn every_mnemonic() {
     makes("JZ p5|2", 0x0A00_5002);
     makes("JM b|4", 0x0B00_2004);
     makes("LIT 5", 0x0C00_0005);
-    makes("MOVE p4,p5|6", 0x0D04_5006);
 }
 
 #[test]
@@ -41,7 +40,6 @@ fn indirect_addresses() {
     makes("RET a|1,*", 0x0900_8001);
     makes("JZ p5|2,*", 0x0A00_D002);
     makes("JM b|4,*", 0x0B00_A004);
-    makes("MOVE s,a|3,*", 0x0D01_8003);
 }
 
 #[test]

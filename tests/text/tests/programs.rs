@@ -53,8 +53,8 @@ fn from_a_file_and_from_standard_input() {
 
 #[test]
 fn reasons() {
-    let lines = "assemble: standard input: line 2: unknown word 'COPY'\n";
-    fails(run(ASSEMBLE, &[], b"segment s\nCOPY a|1"), lines);
+    let lines = "assemble: standard input: line 2: unknown word 'MOVE'\n";
+    fails(run(ASSEMBLE, &[], b"segment s\nMOVE a|1"), lines);
     fails(
         run(ASSEMBLE, &["x", "y"], b""),
         "assemble: at most one file\n",

@@ -2,7 +2,7 @@
 use borrow.Author.Rules.{rules}
 use mathlib.Core.Path.{◌≡◌, refl, sym, ap, ◌∙◌}
 use Rattle.references.specs.Reference.{index_answer}
-use Rattle.memory.specs.Reader.{written_run}
+use Rattle.memory.specs.Reader.{written_of}
 use Rattle.memory.proofs.Accesses.{reference-refused, reference-passed}
 use Rattle.memory.proofs.write.Statement.{statement}
 use Rattle.memory.proofs.write.Tie as tie
@@ -20,7 +20,7 @@ put-at-requires : tie.Need-put-at-requires
 put-at-requires c κs = search rules
 
 returns : tie.Need-returns
-unfolding written_run
+unfolding written_of
 returns c =
     let r = c.before.before.before in (
       reference-refused _ _ _ _ _ _ _ _ _ _ (ap index_answer (sym c.before.n.given.1) ∙ r.reference.ensures),
@@ -31,7 +31,7 @@ same_length : tie.Need-same-length
 same_length c = search rules
 
 returns-2 : tie.Need-returns-2
-unfolding written_run
+unfolding written_of
 returns-2 c =
     let k = c.before.before.before.before.before in
     let r = k.before.before in (

@@ -8,8 +8,6 @@
 //! All keep the record as bytes, and are timed in long runs; plain and calls
 //! also in slices of 100 instructions, in runs of no instruction, which decode
 //! and encode the record alone, and in runs of 1,000 instructions with a log.
-//! `move` has two, a MOVE of 64 words and a jump; it is timed by the word, beside
-//! a plain loop that copies as many in memory.
 //! An argument asks for the long runs of one loop, or for `slices`, with all
 //! tables of plain and calls.
 
@@ -31,10 +29,6 @@ const LOGS: usize = 2_000;
 const LOG_LIMIT: u16 = 1_000;
 /// Long runs beside them, which take about as long.
 const LONG: usize = 30;
-/// Words of each MOVE, long runs of moves in a round, and copies of a plain loop.
-const MOVED: usize = 64;
-const MOVES: usize = 40;
-const COPIES: usize = 1_000_000;
 
 /// Domain 0 with code in segment 0 and data in 1, domain 1 in 2 and 3; one
 /// gate, at word 0 of segment 2.
@@ -144,42 +138,6 @@ fn call_loop() -> Vec<u8> {
     two_domains(&caller, &caller_data(2, list), &called, &own)
 }
 
-/// One domain that moves 64 words of its data, and jumps back.
-fn move_loop() -> Vec<u8> {
-    let mut code = Program::new();
-    code.put(lit(MOVED as i32));
-    code.put(epp(4, B, 1 + MOVED as i32));
-    code.put(epp(5, B, 0).indirect());
-    let top = code.put(move_words(4, B, 1));
-    code.put(jump(5, 0));
-    let mut data = Program::new();
-    data.word(pointer(0, top));
-    data.block((0..2 * MOVED as u32).map(|k| 3 * k));
-    let mut image = ImageBuilder::new();
-    image.segment(code.words().to_vec());
-    image.segment(data.words().to_vec());
-    image.domain(1, &[(0, E), (1, R + W)]);
-    image.bytes()
-}
-
-/// The best nanoseconds a word of a plain loop that copies as many words.
-fn copy_loop() -> f64 {
-    let mut words = [7u32; 2 * MOVED];
-    let mut best = f64::MAX;
-    for _ in 0..ROUNDS {
-        let begun = cpu_time();
-        for _ in 0..COPIES {
-            let (from, to) = black_box((0, MOVED));
-            for k in 0..MOVED {
-                words[to + k] = words[from + k];
-            }
-            black_box(&mut words);
-        }
-        best = best.min((cpu_time() - begun).as_nanos() as f64);
-    }
-    best / (COPIES * MOVED) as f64
-}
-
 /// A record and its words in the middle of an image's loop.
 fn started(image: &[u8]) -> State {
     let mut state = State::new(&[0; RECORD_BYTES], &[0; MEMORY_WORDS]);
@@ -237,15 +195,6 @@ fn long_run(name: &str, image: &[u8]) {
     println!("{}", row(name, times));
 }
 
-/// Long runs of moves: nanoseconds a word.
-fn long_moves() {
-    let words = f64::from(LIMIT) / 2.0 * MOVED as f64;
-    let times = both(RUNS, &move_loop(), MOVES, LIMIT).map(|call| call / words);
-    println!("a word of a MOVE of {MOVED}, {MOVES} runs of {LIMIT} a round");
-    println!("           library  reference   ratio   a plain loop");
-    println!("{} {:14.2}", row("move", times), copy_loop());
-}
-
 /// How many times what its instructions take in a long run a slice takes, by
 /// one side: both are timed one after the other, since the speed of a machine
 /// changes; the middle one of the rounds counts.
@@ -290,32 +239,21 @@ fn main() {
         ("reread", reread_loop()),
     ];
     let is_asked = |name: &str| only.as_ref().is_none_or(|only| only == name);
-    let (with_slices, with_moves) = (is_asked("slices"), is_asked("move"));
+    let with_slices = is_asked("slices");
     let mut asked: Vec<_> = loops.iter().collect();
     asked.retain(|(name, _)| with_slices || is_asked(name));
     assert!(
-        with_moves || !asked.is_empty(),
-        "untagged, plain, reread, calls, move or slices"
+        !asked.is_empty(),
+        "untagged, plain, reread, calls or slices"
     );
     println!("ns of CPU time, best of {ROUNDS} rounds");
-    print_long_runs(&asked);
-    if with_slices {
-        print_slices(&asked[..2]);
-    }
-    if with_moves {
-        long_moves();
-    }
-}
-
-/// The table of long runs.
-fn print_long_runs(loops: &[&(&str, Vec<u8>)]) {
-    if loops.is_empty() {
-        return;
-    }
     println!("an instruction of a long run, {CALLS} runs of {LIMIT} a round");
     println!("           library  reference   ratio");
-    for (name, image) in loops {
+    for (name, image) in &asked {
         long_run(name, image);
+    }
+    if with_slices {
+        print_slices(&asked[..2]);
     }
 }
 

@@ -186,7 +186,6 @@ pub fn compare(
                 memory: one.end,
             };
             met.count_list(start, one.code);
-            met.count_moves(start, one.code);
             if rng.chance(25) {
                 end.memory = two.end;
             }

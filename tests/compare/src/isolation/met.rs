@@ -3,12 +3,9 @@
 use super::claim::Place;
 use crate::runs::{kind, number, Kind};
 use generator::handed_on::{next_list, Found};
-use generator::moved::Moves;
 use generator::records::Snapshot;
-use generator::Reached;
 use reference::checks::{live_check, Flag};
 use reference::record::FRAMES;
-use reference::words::WordRun;
 use reference::{stretch, Fault, Machine};
 use std::fmt;
 
@@ -37,8 +34,6 @@ pub struct Met {
     pub lists_uncovered: u64,
     /// Those that ended with 25 at a word of such a list that is covered.
     pub lists_failing: u64,
-    /// Stretches by what their moves came to.
-    pub moves: Moves,
     /// Words that a stretch changed in either memory.
     pub changed_words: u64,
     /// Those of them that the domain may not see.
@@ -62,8 +57,7 @@ impl Met {
         let mut hidden = places.iter().filter(|place| !place.seen).peekable();
         self.with_hidden += u64::from(hidden.peek().is_some());
         let by_source = hidden.any(|place| {
-            let word = WordRun::one(place.segment, place.word);
-            live_check(machine, word, Flag::Read) == Err(Fault::SourceFails)
+            live_check(machine, place.segment, place.word, Flag::Read) == Err(Fault::SourceFails)
         });
         self.hidden_by_source += u64::from(by_source);
     }
@@ -93,25 +87,6 @@ impl Met {
         }
     }
 
-    /// Counts the moves of a stretch from this start.
-    pub(super) fn count_moves(&mut self, start: &Snapshot, code: u32) {
-        let Snapshot {
-            mut machine,
-            mut memory,
-        } = start.clone();
-        let limit = code as u16 + u16::from(number(code) != 0);
-        let mut reached = Reached::default();
-        let ran = reached.observe_run(&mut machine, &mut memory, limit, true);
-        ran.expect("a sound record");
-        self.moves.add_run(reached.moves);
-    }
-
-    /// Stretches that completed a MOVE, and those that moved a word that only runs
-    /// of two words or more show.
-    pub fn moved(&self) -> [u64; 2] {
-        ["completed", "a word that only longer runs show"].map(|case| self.moves.of(case))
-    }
-
     /// Stretches after which nothing follows.
     pub(super) fn ended(&self) -> u64 {
         self.stretches - self.spent - self.crossed
@@ -138,11 +113,6 @@ impl fmt::Display for Met {
             f,
             "lists not covered {} failing {}",
             self.lists_uncovered, self.lists_failing
-        )?;
-        let [moved, shown] = self.moved();
-        writeln!(
-            f,
-            "stretches with a MOVE {moved}, of a word that only longer runs show {shown}"
         )?;
         writeln!(f, "words changed {}", self.changed_words)?;
         writeln!(f, "  hidden words stored to {}", self.written_unseen)

@@ -11,7 +11,6 @@ pub use met::Met;
 
 use crate::library;
 use generator::handed_on::about_to_hand_on;
-use generator::moved::about_to_move;
 use generator::recent::about_to_refer;
 use generator::records::{self, Snapshot};
 use generator::{program, Rng};
@@ -56,16 +55,14 @@ fn in_a_row(rng: &mut Rng, claim: Claim, met: &mut Met) -> Result<(), Box<Broken
     Ok(())
 }
 
-/// A fresh machine, one in the middle of a run, one about to hand a list on, to
-/// refer to words through tagged pointers or to move some, or one with changed
-/// fields.
+/// A fresh machine, one in the middle of a run, one about to hand a list on or to
+/// refer to words through tagged pointers, or one with changed fields.
 fn start(rng: &mut Rng) -> Snapshot {
     match rng.below(10) {
         0 | 1 => fresh(rng),
         2..=5 => records::mid_run(rng),
         6 => about_to_hand_on(rng),
         7 => about_to_refer(rng),
-        8 => about_to_move(rng),
         _ => records::sound(rng),
     }
 }

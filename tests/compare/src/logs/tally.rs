@@ -109,7 +109,7 @@ impl Tally {
 impl fmt::Display for Tally {
     fn fmt(&self, f: &mut fmt::Formatter<'_>) -> fmt::Result {
         write!(f, "numbers given:")?;
-        for number in [0].into_iter().chain(7..=9).chain(21..=33) {
+        for number in [0].into_iter().chain(7..=9).chain(21..=32) {
             write!(f, " {number}: {}", self.of(number))?;
         }
         writeln!(f, "\n8 for the log: {}", self.short_logs)?;

@@ -10,7 +10,6 @@ pub use tally::Tally;
 use crate::references::Reference;
 use crate::runs::{about_to_execute, described, first_limit, further_call, goes_on, Call};
 use generator::handed_on::about_to_hand_on;
-use generator::moved::about_to_move;
 use generator::recent::about_to_refer;
 use generator::records::{self, Snapshot};
 use generator::{made, Rng};
@@ -123,8 +122,7 @@ fn any_start(rng: &mut Rng) -> Snapshot {
         0..=2 => records::mid_run(rng),
         3 | 4 => records::sound(rng),
         5 => about_to_hand_on(rng),
-        6 => about_to_refer(rng),
-        7 => about_to_move(rng),
+        6 | 7 => about_to_refer(rng),
         _ => about_to_execute(rng),
     }
 }

@@ -31,9 +31,7 @@ impl Tally {
 
     /// What was never reached.
     pub fn missing(&self) -> Vec<String> {
-        let moves = self.reached.moves.named().into_iter();
-        let moves = moves.map(|(name, count)| (format!("MOVE: {name}"), count));
-        let all = self.reached.recents.named().into_iter().chain(moves);
+        let all = self.reached.recents.named().into_iter();
         let missing = all.filter(|(_, count)| *count == 0);
         missing.map(|(name, _)| name).collect()
     }

@@ -2,7 +2,6 @@
 //! opcode, with registers that point anywhere.
 
 use generator::handed_on::about_to_hand_on;
-use generator::moved::about_to_move;
 use generator::recent::about_to_refer;
 use generator::records::{self, executable_place, Snapshot};
 use generator::Rng;
@@ -10,12 +9,11 @@ use reference::record::{Machine, ACTIVATION_POINTER};
 use reference::words::{Opcode, Pointer, OPCODES};
 
 /// A sound machine whose next instruction is a random one, a call that hands a
-/// list on, or one that refers to words through tagged pointers or moves some.
+/// list on, or one that refers to words through tagged pointers.
 pub fn about_to_execute(rng: &mut Rng) -> Snapshot {
     match rng.below(10) {
         0 | 1 => return about_to_hand_on(rng),
         2 | 3 => return about_to_refer(rng),
-        4 => return about_to_move(rng),
         _ => {}
     }
     let mut snapshot = records::sound(rng);
@@ -28,10 +26,8 @@ pub fn about_to_execute(rng: &mut Rng) -> Snapshot {
     let opcode = rng.pick(&OPCODES);
     let base = rng.below(8);
     let word = instruction(rng, opcode, base);
-    match opcode {
-        Opcode::Ret if rng.chance(70) => aim_at_the_caller(rng, machine, base as usize),
-        Opcode::Move if rng.chance(80) => machine.a = rng.between(0, 66),
-        _ => {}
+    if opcode == Opcode::Ret && rng.chance(70) {
+        aim_at_the_caller(rng, machine, base as usize);
     }
     let address = executable_place(rng, machine);
     snapshot.memory[address] = word;

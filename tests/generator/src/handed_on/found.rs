@@ -1,9 +1,9 @@
 //! What the live frame has for a list that a call is about to hand on.
 
 use crate::records::fetch_check;
-use reference::checks::{check_reference, has_flag, live_check, static_check, words_exist, Flag};
+use reference::checks::{check_reference, has_flag, live_check, static_check, word_exists, Flag};
 use reference::record::{Capability, ARGUMENT_POINTER, FRAMES};
-use reference::words::{Instruction, Opcode, Pointer, WordRun};
+use reference::words::{Instruction, Opcode, Pointer};
 use reference::{Fault, Machine, SEGMENT_WORDS};
 
 /// Why a list is not covered. Each gives 24; the first two do so when word 0
@@ -48,7 +48,7 @@ pub enum Found {
 
 /// The word that a pointer names, if it exists.
 fn word_at(machine: &Machine, memory: &[u32], place: Pointer) -> Option<u32> {
-    if !words_exist(machine, place.one()) {
+    if !word_exists(machine, place.segment, place.word) {
         return None;
     }
     let before = &machine.segments[..usize::from(place.segment)];
@@ -80,7 +80,7 @@ pub(super) fn find(machine: &Machine, memory: &[u32], instruction: Instruction) 
     let Some(frame) = machine.live_frame() else {
         return Some(Found::Uncovered(Uncovered::NoFrame));
     };
-    match live_check(machine, a.one(), Flag::Read) {
+    match live_check(machine, a.segment, a.word, Flag::Read) {
         Err(Fault::NoCapability) => return Some(Found::Uncovered(Uncovered::FirstWord)),
         Err(_) => return None,
         Ok(()) => {}
@@ -90,7 +90,7 @@ pub(super) fn find(machine: &Machine, memory: &[u32], instruction: Instruction) 
 }
 
 /// The effective pointer of an instruction, if it is formed.
-pub(crate) fn effective_pointer(
+fn effective_pointer(
     machine: &Machine,
     memory: &[u32],
     instruction: Instruction,
@@ -100,7 +100,7 @@ pub(crate) fn effective_pointer(
     if !instruction.indirect {
         return Some(first);
     }
-    check_reference(machine, first.tag, first.one(), Flag::Read).ok()?;
+    check_reference(machine, first, Flag::Read).ok()?;
     let mut pointer = Pointer::from_word(word_at(machine, memory, first)?).ok()?;
     pointer.tag |= first.tag;
     Some(pointer)
@@ -110,7 +110,7 @@ pub(crate) fn effective_pointer(
 fn is_open_gate(machine: &Machine, target: Pointer) -> bool {
     let has = |flag| has_flag(machine, machine.domain, target.segment, flag);
     !target.tag
-        && words_exist(machine, target.one())
+        && word_exists(machine, target.segment, target.word)
         && !has(Flag::Execute)
         && has(Flag::Gate)
         && target.word < machine.segments[usize::from(target.segment)].gate_count
@@ -119,15 +119,13 @@ fn is_open_gate(machine: &Machine, target: Pointer) -> bool {
 
 /// How a list of `length` words at a is covered; word 0 can be read.
 fn cover(machine: &Machine, capabilities: &[Capability], a: Pointer, length: u16) -> Found {
-    let list = WordRun { length, ..a.one() };
-    let word = |k: u16| WordRun::one(a.segment, a.word + k);
-    let all = |row: &Capability| row.covers(list);
-    let one = |row: &Capability, k: u16| row.read && row.covers(word(k));
+    let all = |row: &Capability| row.covers(a.segment, a.word, length);
+    let one = |row: &Capability, k: u16| row.read && row.covers(a.segment, a.word + k, 1);
     let mut covering = capabilities.iter().filter(|row| row.read && all(row));
     if let Some(first) = covering.next() {
         let last = covering.next_back().unwrap_or(first);
         let place = capabilities.iter().rposition(|row| row.read && all(row));
-        let fails = |&k: &u16| live_check(machine, word(k), Flag::Read).is_err();
+        let fails = |&k: &u16| live_check(machine, a.segment, a.word + k, Flag::Read).is_err();
         let failing = (1..length).filter(|&k| k != 2).find(fails);
         let failing = failing.and_then(|k| capabilities.iter().position(|row| one(row, k)));
         return Found::Covered {
@@ -158,8 +156,10 @@ pub(super) fn reads_by_passed_on_source(machine: &Machine, instruction: Instruct
         return false;
     };
     let rows = frame.capabilities();
-    let found = rows.iter().position(|row| row.read && row.covers(at.one()));
-    let passes = |domain| static_check(machine, domain, at.one(), Flag::Read).is_ok();
+    let found = rows
+        .iter()
+        .position(|row| row.read && row.covers(at.segment, at.word, 1));
+    let passes = |domain| static_check(machine, domain, at.segment, at.word, Flag::Read).is_ok();
     found.is_some_and(|place| {
         place + 1 == rows.len() && passes(rows[place].source) && !passes(frame.domain)
     })

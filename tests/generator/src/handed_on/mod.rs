@@ -9,7 +9,6 @@ mod records;
 
 pub(crate) use counts::Before;
 pub use counts::HandedOn;
-pub(crate) use found::effective_pointer;
 pub use found::{next_list, Found, Uncovered, UNCOVERED};
 pub use image::build;
 pub use records::about_to_hand_on;

@@ -4,9 +4,9 @@ use crate::random::Rng;
 use crate::recent::{fill, mend};
 use crate::records::{self, executable_place, Snapshot};
 use assembler::{call, mode, E, G, R, W};
-use reference::checks::words_exist;
+use reference::checks::word_exists;
 use reference::record::{Capability, Frame, Machine, ARGUMENT_POINTER, CAPABILITIES, FRAMES};
-use reference::words::{Pointer, WordRun};
+use reference::words::Pointer;
 use reference::SEGMENT_WORDS;
 
 /// A sound record whose next instruction is mostly a call through a gate with a
@@ -67,7 +67,7 @@ fn put_list(rng: &mut Rng, snapshot: &mut Snapshot) {
     let before = &machine.segments[..usize::from(list.segment)];
     let first: usize = before.iter().map(|row| usize::from(row.length)).sum();
     for (word, &value) in (list.word..).zip(&words) {
-        if words_exist(machine, WordRun::one(list.segment, word)) {
+        if word_exists(machine, list.segment, word) {
             snapshot.memory[first + usize::from(word)] = value;
         }
     }

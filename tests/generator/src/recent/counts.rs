@@ -2,55 +2,17 @@
 
 use super::uses::{uses, Use};
 use reference::recent::{Recent, Registers};
-use reference::words::{Instruction, Opcode, Pointer};
+use reference::words::{Instruction, Opcode};
 use reference::{Completed, Fault, Machine, Processor};
 use std::fmt;
 
-/// References after which a fault may come.
-#[derive(Clone, Copy)]
-enum After {
-    /// To an indirect word, and to nothing else.
-    Indirect,
-    /// To words of a list.
-    List,
-    /// To the source of a MOVE.
-    Source,
-}
-
-impl After {
-    const ALL: [After; 3] = [After::Indirect, After::List, After::Source];
-
-    /// What the references of an instruction that gave a fault were to: the base
-    /// of its address, and how many passed.
-    fn of(instruction: Instruction, base: Pointer, made: usize) -> After {
-        let indirect = usize::from(instruction.indirect && base.tag);
-        match instruction.opcode {
-            Opcode::Call if !base.tag => After::List,
-            Opcode::Move if made > indirect => After::Source,
-            _ => After::Indirect,
-        }
-    }
-
-    fn name(self) -> &'static str {
-        match self {
-            After::Indirect => "an indirect word",
-            After::List => "words of a list",
-            After::Source => "the source of a MOVE",
-        }
-    }
-
-    /// The faults that may come. The pointer from an indirect word is tagged and
-    /// has no offset: a transfer gives 28, only a return goes on to a static check,
-    /// and only a MOVE gives 23 and 33. Before a word of a list the gate and the free
-    /// frame are judged, and a list that is covered ends by word 4,095.
-    fn faults(self) -> &'static [u8] {
-        match self {
-            After::Indirect => &[21, 22, 23, 24, 25, 26, 28, 32, 33],
-            After::List => &[24, 25, 26, 30],
-            After::Source => &[21, 22, 24, 25],
-        }
-    }
-}
+/// Faults that may follow an indirect word read through a tagged pointer. The
+/// pointer from it is tagged and has no offset: there is no 23, a transfer gives
+/// 28, and only a return goes on to a static check.
+const AFTER_INDIRECT: [u8; 7] = [21, 22, 24, 25, 26, 28, 32];
+/// Faults that may follow a word of a list at a tagged a. The gate and the free
+/// frame are judged before, and a list that is covered ends by word 4,095.
+const WITHIN_LIST: [u8; 4] = [24, 25, 26, 30];
 
 /// Runs by what they did with the registers.
 #[derive(Clone, Debug, Default)]
@@ -77,9 +39,9 @@ pub struct Recents {
     pub return_entered: u64,
     /// A return cleared registers.
     pub cleared: u64,
-    /// Faults 21 to 33 after references that would have changed the registers, by
-    /// what these were to.
-    faults_between: [[u64; 13]; After::ALL.len()],
+    /// Faults 21 to 32 after references that would have changed the registers:
+    /// to an indirect word, and to words of a list.
+    faults_between: [[u64; 12]; 2],
 }
 
 impl Recents {
@@ -96,8 +58,8 @@ impl Recents {
         match outcome {
             Err(fault) if registers != before.recent => {
                 let base = before.pointers[usize::from(instruction.base)];
-                let after = After::of(instruction, base, after.made().len());
-                let row = &mut self.faults_between[after as usize];
+                let at_list = instruction.opcode == Opcode::Call && !base.tag;
+                let row = &mut self.faults_between[usize::from(at_list)];
                 row[usize::from(fault.number()) - 21] += 1;
             }
             Err(_) => {}
@@ -142,21 +104,27 @@ impl Recents {
         self.cleared += u64::from(completed == Completed::Returned && had_some);
     }
 
-    /// Runs with each fault that may come after these references, where they would
-    /// have changed the registers.
-    fn faults(&self, after: After) -> Vec<(String, u64)> {
-        let (name, row) = (after.name(), self.faults_between[after as usize]);
-        let named = |&fault: &u8| {
-            let count = row[usize::from(fault) - 21];
-            (format!("{fault} after {name}"), count)
+    /// Runs with each of these faults after references that would have changed
+    /// the registers: to an indirect word, or to words of a list.
+    fn faults(&self, at_list: bool) -> Vec<(String, u64)> {
+        let (name, faults) = match at_list {
+            false => ("an indirect word", &AFTER_INDIRECT[..]),
+            true => ("words of a list", &WITHIN_LIST[..]),
         };
-        after.faults().iter().map(named).collect()
+        let row = self.faults_between[usize::from(at_list)];
+        let named = |&fault: &u8| {
+            (
+                format!("{fault} after {name}"),
+                row[usize::from(fault) - 21],
+            )
+        };
+        faults.iter().map(named).collect()
     }
 
     /// Runs with 24 or 25 at an operand, after an indirect word that would have
     /// changed the registers.
     pub fn operand_failed(&self) -> u64 {
-        let after_indirect = self.faults_between[After::Indirect as usize];
+        let [after_indirect, _] = self.faults_between;
         after_indirect[24 - 21] + after_indirect[25 - 21]
     }
 
@@ -176,14 +144,14 @@ impl Recents {
             ("registers cleared", self.cleared),
         ];
         let uses = uses.map(|(name, count)| (name.to_string(), count));
-        let faults = After::ALL.map(|after| self.faults(after));
+        let faults = [false, true].map(|at_list| self.faults(at_list));
         uses.into_iter().chain(faults.concat()).collect()
     }
 
     /// How many runs gave a fault where the order of the checks leaves none.
     pub fn impossible(&self) -> u64 {
         let all: u64 = self.faults_between.as_flattened().iter().sum();
-        let faults = After::ALL.map(|after| self.faults(after)).concat();
+        let faults = [false, true].map(|at_list| self.faults(at_list)).concat();
         all - faults.iter().map(|(_, count)| count).sum::<u64>()
     }
 

@@ -79,7 +79,7 @@ fn read_argument(rng: &mut Rng, part: &mut Subsystem, k: u32, length: u32) {
 /// on the same words, again and again, each time that it is called.
 fn rereading(rng: &mut Rng) -> ImageBuilder {
     let [mut a, mut b, mut c] = chain_parts();
-    let on_one_block = rng.chance(70);
+    let on_one_block = rng.chance(50);
     let n = rng.between(1 + u32::from(on_one_block), 8);
     let (list, lengths) = match on_one_block {
         true => list_on_one_block(rng, &mut a, n),

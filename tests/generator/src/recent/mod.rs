@@ -12,5 +12,3 @@ pub use counts::Recents;
 pub use damage::spoil_a_register;
 pub use image::build;
 pub use records::{about_to_refer, fill, mend};
-pub(crate) use records::{let_sources_refer, put_word};
-pub(crate) use uses::{uses, Use};

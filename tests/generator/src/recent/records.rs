@@ -135,7 +135,7 @@ fn crowd(rng: &mut Rng, machine: &mut Machine) {
 
 /// Mostly gives the sources of the live frame's capabilities R and W where they
 /// lie, if that segment exists.
-pub(crate) fn let_sources_refer(rng: &mut Rng, machine: &mut Machine) {
+fn let_sources_refer(rng: &mut Rng, machine: &mut Machine) {
     let live = machine.frames[usize::from(machine.frame_count) - 1];
     for row in live.capabilities() {
         if row.segment < machine.segment_count && rng.chance(75) {
@@ -172,7 +172,7 @@ fn reference_by(rng: &mut Rng, base: u32) -> Code {
 }
 
 /// Puts a word where a pointer says, if that exists.
-pub(crate) fn put_word(snapshot: &mut Snapshot, place: Pointer, word: u32) {
+fn put_word(snapshot: &mut Snapshot, place: Pointer, word: u32) {
     let rows = &snapshot.machine.segments;
     let segment = usize::from(place.segment);
     if place.word >= rows[segment].length {

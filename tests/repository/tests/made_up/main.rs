@@ -6,4 +6,3 @@ mod edits;
 mod functions;
 mod names;
 mod rules;
-mod trials;

@@ -4,15 +4,13 @@ use mathlib.Core.Bool.{false}
 use mathlib.Core.List.{[], ◌∷◌}
 use mathlib.Core.Path.{◌≡◌, refl, sym, ap, ◌∙◌, subst}
 use borrow.Author.Tests.{eq-eqb, ne_eqb}
-use lib.ListN.{get_or}
-use Rattle.state.specs.Record.{no_pointer}
 use Rattle.lent_registers.specs.Columns.{registers_of}
 use Rattle.references.specs.Made.{made_read, renewed_all}
 use Rattle.memory.specs.Reader.{read_of}
 use Rattle.instructions.specs.Instruction.{is_load, is_store, effect_of}
 use Rattle.instructions.specs.Cycle.{Stays, cycle_answer, recent_by}
-use Rattle.instructions.proofs.Cycles.{load-settles, jump-settles, call-settles, move-settles}
-use Rattle.instructions.proofs.Jumps.{not_move, jumping, moving-on, leaving-by}
+use Rattle.instructions.proofs.Cycles.{load-settles, jump-settles, call-settles}
+use Rattle.instructions.proofs.Jumps.{jumping, moving-on, leaving-by}
 use Rattle.instructions.proofs.Notes.{last-noted, untagged-indirect, indirect-noted, nothing-noted, stay-recent, moved-recent, idle-recent, jump-untagged, call-recent}
 use Rattle.pointer_registers.specs.Stack.{stack_of}
 use Rattle.instructions.proofs.cycle.effect.Statement.{statement}
@@ -97,7 +95,7 @@ returns-4 c =
     let a = e.before.before.before.before.before.args in
     let s = jump-settles a.lengths.now a.gates.now a.rights.now a.stacks.now a.bases.now a.words.now (registers_of a.recent.now) a.depth a.frame a.r a.pointers a.q a.p in
     let d = jumping a.lengths.now a.gates.now a.rights.now a.stacks.now a.depth a.r a.pointers (read_of a.lengths.now a.rights.now a.bases.now a.words.now a.r.domain (registers_of a.recent.now) a.depth a.frame) a.i.opcode a.i.register a.p (no-load e) (no_store e) (sym j.before.jumps.ensures ∙ j.if3.true) in
-    rw d (ap (cycle_answer a.pointers) c.go-to.ensures ∙ simp (s.there, ← k.jump-check.ensures, eq-eqb _ _ i.if4.false), (sym s.words-stay, (subst (Stays _) (sym c.go-to.ensures) tt, idle-recent _ _ (cycle_answer a.pointers c.go-to.result) (nothing-noted a.i.opcode a.r.a (get_or a.pointers a.i.register no_pointer) a.p a.depth a.frame (registers_of a.recent.now) a.q (no-load e) (no_store e) (not_move a.i.opcode a.r.a a.p.tag (sym j.before.jumps.ensures ∙ j.if3.true)) (e.before.before.before.before.before.requires.1 (jump-untagged _ _ _ a.p (sym k.jump-check.ensures ∙ i.if4.false)))))))
+    rw d (ap (cycle_answer a.pointers) c.go-to.ensures ∙ simp (s.there, ← k.jump-check.ensures, eq-eqb _ _ i.if4.false), (sym s.words-stay, (subst (Stays _) (sym c.go-to.ensures) tt, idle-recent _ _ (cycle_answer a.pointers c.go-to.result) (nothing-noted a.i.opcode a.p a.depth a.frame (registers_of a.recent.now) a.q (no-load e) (no_store e) (e.before.before.before.before.before.requires.1 (jump-untagged _ _ _ a.p (sym k.jump-check.ensures ∙ i.if4.false)))))))
 
 note-indirect-requires : tie.Need-note-indirect-requires
 note-indirect-requires c κs = search rules
@@ -110,12 +108,6 @@ call-requires c κs = search rules
 
 stay-requires-2 : tie.Need-stay-requires-2
 stay-requires-2 c κs = search rules
-
-pointer-at-requires : tie.Need-pointer-at-requires
-pointer-at-requires c κs = search rules
-
-copy-requires : tie.Need-copy-requires
-copy-requires c κs = search rules
 
 note-indirect-requires-2 : tie.Need-note-indirect-requires-2
 note-indirect-requires-2 c κs = search rules
@@ -151,31 +143,16 @@ returns-7 c =
     let d = leaving-by a.lengths.now a.gates.now a.rights.now a.stacks.now a.depth a.r a.pointers (read_of a.lengths.now a.rights.now a.bases.now a.words.now a.r.domain (registers_of a.recent.now) a.depth a.frame) a.i.opcode a.i.register a.p (no-load e) (no_store e) (sym j.before.jumps.ensures ∙ j.if3.false) m.match.keys3 in
     rw d (ap (cycle_answer a.pointers) c.stay2.ensures, (refl, (subst (Stays _) (sym c.stay2.ensures) refl, stay-recent _ _ a.pointers _ _ _ c.stay2.ensures refl)))
 
-same-length-3 : tie.Need-same-length-3
-same-length-3 c = search rules
-
 returns-8 : tie.Need-returns-8
-unfolding effect_of
 returns-8 c =
-    let y = c.before.before in
-    let x = y.before in
-    let m = x.before.before.before in
-    let e = m.before.before.before in
-    let a = e.before.before.before.before.before.args in
-    let s = move-settles a.lengths.now a.gates.now a.rights.now a.stacks.now a.bases.now a.words.now (registers_of a.recent.now) a.depth a.frame a.r a.pointers a.q a.p (get_or a.pointers a.i.register no_pointer) in
-    let v = rw x.pointer-at.ensures at y.copy.ensures in
-    simp (no-load e, no_store e) (rw m.match.keys4 (v.0 a.pointers ∙ sym s.0, (v.1.0 ∙ sym s.1, (v.1.1.0, v.1.1.1 a.pointers))))
-
-returns-9 : tie.Need-returns-9
-returns-9 c =
     let o = c.before in
     let m = o.before.before in
     let j = m.before in
     let e = j.before.before in
     let a = e.before.before.before.before.before.args in
     let n = m.match.rest in
-    let d = moving-on a.lengths.now a.gates.now a.rights.now a.stacks.now a.depth a.r a.pointers (read_of a.lengths.now a.rights.now a.bases.now a.words.now a.r.domain (registers_of a.recent.now) a.depth a.frame) a.i.opcode a.i.register a.p (no-load e) (no_store e) (sym j.before.jumps.ensures ∙ j.if3.false) (ne_eqb _ _ n.1) (ne_eqb _ _ n.0.0.0.1) (ne_eqb _ _ n.0.0.1) (ne_eqb _ _ n.0.1) in
-    rw d (ap (cycle_answer a.pointers) c.onward2.ensures, (refl, (subst (Stays _) (sym c.onward2.ensures) tt, indirect-noted a.i.opcode a.r.a (get_or a.pointers a.i.register no_pointer) a.p a.depth a.frame (registers_of a.recent.now) a.q (no-load e) (no_store e) (ne_eqb _ _ n.1) _ (last-noted _ _ _ _ _ o.note-indirect2.ensures) ∙ moved-recent _ _ a.pointers _ _ _ c.onward2.ensures refl)))
+    let d = moving-on a.lengths.now a.gates.now a.rights.now a.stacks.now a.depth a.r a.pointers (read_of a.lengths.now a.rights.now a.bases.now a.words.now a.r.domain (registers_of a.recent.now) a.depth a.frame) a.i.opcode a.i.register a.p (no-load e) (no_store e) (sym j.before.jumps.ensures ∙ j.if3.false) (ne_eqb _ _ n.0.0.1) (ne_eqb _ _ n.0.1) (ne_eqb _ _ n.1) in
+    rw d (ap (cycle_answer a.pointers) c.onward2.ensures, (refl, (subst (Stays _) (sym c.onward2.ensures) tt, indirect-noted a.i.opcode a.p a.depth a.frame (registers_of a.recent.now) a.q (no-load e) (no_store e) _ (last-noted _ _ _ _ _ o.note-indirect2.ensures) ∙ moved-recent _ _ a.pointers _ _ _ c.onward2.ensures refl)))
 
 pub effect-spec : {M : Type 1} → statement M
 effect-spec =
@@ -200,13 +177,9 @@ effect-spec =
     onward-requires
     call-requires
     stay-requires-2
-    pointer-at-requires
-    copy-requires
     note-indirect-requires-2
     onward-requires-2
     returns-5
     returns-6
     returns-7
-    same-length-3
-    returns-8
-    returns-9)
+    returns-8)

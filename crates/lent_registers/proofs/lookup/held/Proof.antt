@@ -11,10 +11,10 @@ use Rattle.lent_registers.proofs.lookup.held.Statement.{statement}
 use Rattle.lent_registers.proofs.lookup.held.Tie as tie
 
 abbrev invariant-loop : tie.invariant-loop
-invariant-loop recent depth segment word length read i₀ i = Looking depth (covers_of segment word length read (not read)) recent i
+invariant-loop recent depth segment word read i₀ i = Looking depth (covers_of segment word 1 read (not read)) recent i
 
 abbrev decreases-loop : tie.decreases-loop
-decreases-loop recent depth segment word length read i₀ i = 16 - i
+decreases-loop recent depth segment word read i₀ i = 16 - i
 
 loop-holds : tie.Need-loop-init invariant-loop decreases-loop
 loop-holds c = looks-none _ _ _ 0

@@ -36,7 +36,7 @@ covers-requires c κs = search rules
 -- src/lookup.rt:13:1
 returns-2 : tie.Need-returns-2
 unfolding register_at
-returns-2 c = rw (eq-eqb _ _ c.before.before.if1.false) (c.covers.ensures ∙ ap (λ (r : Register). covers_of c.before.before.before.before.args.segment c.before.before.before.before.args.word c.before.before.before.before.args.length c.before.before.before.before.args.read (not c.before.before.before.before.args.read) r.capability) c.before.register-at.ensures)
+returns-2 c = rw (eq-eqb _ _ c.before.before.if1.false) (c.covers.ensures ∙ ap (λ (r : Register). covers_of c.before.before.before.before.args.segment c.before.before.before.before.args.word 1 c.before.before.before.before.args.read (not c.before.before.before.before.args.read) r.capability) c.before.register-at.ensures)
 
 pub is-held-spec : {M : Type 1} → statement M
 is-held-spec =

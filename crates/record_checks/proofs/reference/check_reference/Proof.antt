@@ -2,8 +2,8 @@
 use borrow.Author.Rules.{rules}
 use borrow.Author.Tests.{not-true, not-false}
 use Rattle.layout_soundness.proofs.Tests.{answered-true, answered-false}
-use Rattle.references.specs.Reference.{verdict_run, locate_of, live_reference_run, reference_run}
-use Rattle.references.specs.Check.{check_run}
+use Rattle.references.specs.Reference.{verdict_of, locate_of, live_reference_of, reference_of}
+use Rattle.references.specs.Check.{check}
 use Rattle.record_checks.specs.Judged.{judged_check}
 use Rattle.record_checks.proofs.reference.check_reference.Statement.{statement}
 use Rattle.record_checks.proofs.reference.check_reference.Tie as tie
@@ -25,7 +25,7 @@ locate-requires : tie.Need-locate-requires
 locate-requires c κs = search rules
 
 returns-2 : tie.Need-returns-2
-unfolding judged_check check_run reference_run verdict_run locate_of
+unfolding judged_check check reference_of verdict_of locate_of
 returns-2 c =
     let k = c.before.before.before.before.before.before in
     let b = k.before.before in
@@ -46,7 +46,7 @@ live-reference-requires : tie.Need-live-reference-requires
 live-reference-requires c κs = search rules
 
 returns-3 : tie.Need-returns-3
-unfolding judged_check check_run reference_run verdict_run live_reference_run
+unfolding judged_check check reference_of verdict_of live_reference_of
 returns-3 c =
     let u = c.before in
     let s = u.before.before.before.before.before.before in

@@ -18,23 +18,19 @@ decode-under-requires-2 : tie.Need-decode-under-requires-2
 decode-under-requires-2 c κs = run-mask _ 12 1 refl _ (omega arith) (omega arith)
 
 -- EPP and SPP
-decode-pointed-requires : tie.Need-decode-pointed-requires
-decode-pointed-requires c κs = run-mask _ 5 2 refl _ (omega arith) (omega arith)
-
--- MOVE
-decode-pointed-requires-2 : tie.Need-decode-pointed-requires-2
-decode-pointed-requires-2 c κs = run-mask _ 13 1 refl _ (omega arith) (omega arith)
-
-returns : tie.Need-returns
-returns c = search rules
+decode-under-requires-3 : tie.Need-decode-under-requires-3
+decode-under-requires-3 c κs = run-mask _ 5 2 refl _ (omega arith) (omega arith)
 
 -- LOAD to SUB, and JUMP to JM
-decode-under-requires-3 : tie.Need-decode-under-requires-3
-decode-under-requires-3 c κs =
+decode-under-requires-4 : tie.Need-decode-under-requires-4
+decode-under-requires-4 c κs =
     elim c.if1.branch [
       | inl a ↦ run-mask _ 1 4 refl _ (omega arith) (omega arith)
       | inr b ↦ run-mask _ 7 5 refl _ (omega arith) (omega arith)
     ]
+
+returns : tie.Need-returns
+returns c = search rules
 
 returns-2 : tie.Need-returns-2
 returns-2 c = search rules
@@ -42,19 +38,16 @@ returns-2 c = search rules
 returns-3 : tie.Need-returns-3
 returns-3 c = search rules
 
+-- none of the thirteen
 returns-4 : tie.Need-returns-4
-returns-4 c = search rules
-
--- none of the fourteen
-returns-5 : tie.Need-returns-5
 unfolding instruction_of
-returns-5 c =
-    let b = c.before.before.before.before.before in
-    let above : 13 < b.bits.result = omega arith in
+returns-4 c =
+    let b = c.before.before.before.before in
+    let above : 12 < b.bits.result = omega arith in
     simp (← b.bits.ensures.0, lt-leb _ _ above)
 
-returns-6 : tie.Need-returns-6
-returns-6 c = search rules
+returns-5 : tie.Need-returns-5
+returns-5 c = search rules
 
 pub decode-spec : {M : Type 1} → statement M
 decode-spec =
@@ -63,12 +56,10 @@ decode-spec =
     bits-requires
     decode-under-requires
     decode-under-requires-2
-    decode-pointed-requires
-    decode-pointed-requires-2
-    returns
     decode-under-requires-3
+    decode-under-requires-4
+    returns
     returns-2
     returns-3
     returns-4
-    returns-5
-    returns-6)
+    returns-5)

@@ -1,4 +1,0 @@
-pub mod Blocks
-pub mod Moves
-pub mod Done
-pub mod Copies
