@@ -1,4 +1,7 @@
 // Effective pointers.
+
+#![tactic(auto)]
+
 ghost use Rattle.std.specs.Prelude.{◌≡◌, ◌||◌};
 ghost use Rattle.words.specs.PointerWord.{pointer_answer};
 ghost use Rattle.lent_registers.specs.Columns.{registers_of};

@@ -1,4 +1,7 @@
 // The argument list of a call through a gate, and the frame made of it.
+
+#![tactic(auto)]
+
 ghost use Rattle.std.specs.Prelude.{◌≡◌, true, ◌≤◌, replicate, set};
 ghost use Rattle.state.specs.Record.{no_capability};
 ghost use Rattle.capabilities.specs.Search.{capability_answer};
@@ -128,7 +131,7 @@ fn argument<'a>(
 }
 
 // A frame's rows, or a refusal by its number.
-#[derive(Drop)]
+#[derive(Clone, Copy)]
 pub struct Rows {
     pub rows: [Capability; 9],
     pub number: u8,
@@ -207,7 +210,7 @@ fn arguments<'a>(
 }
 
 // A frame, or a refusal by its number with the frame that came in.
-#[derive(Drop)]
+#[derive(Clone, Copy)]
 pub struct Framed {
     pub frame: Frame,
     pub number: u8,

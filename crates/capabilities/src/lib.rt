@@ -1,11 +1,14 @@
 // The search of a frame's capabilities, in order.
+
+#![tactic(auto)]
+
 ghost use Rattle.std.specs.Prelude.{◌≡◌, take};
 ghost use Rattle.capabilities.specs.Search.{granted, covers_of, first_of, capability_answer};
 
 use state::record::Capability;
 
 // What a search gives: the first capability that fits, or the refusal 24.
-#[derive(Drop)]
+#[derive(Clone, Copy)]
 pub enum CapabilityAnswer {
     Capability(Capability),
     Refused(u8),

@@ -1,4 +1,7 @@
 // A run that keeps a log of its crossings.
+
+#![tactic(auto)]
+
 mod records;
 mod stretches;
 
@@ -11,7 +14,7 @@ use runs::outcome::{End, Outcome};
 use state::record::Machine;
 
 // What a run came to, and how many calls and returns its log has.
-#[derive(Drop)]
+#[derive(Clone, Copy)]
 pub struct Logged {
     pub outcome: Outcome,
     pub calls: u16,

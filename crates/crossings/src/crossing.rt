@@ -16,7 +16,7 @@ use state::record::{Frame, Registers};
 use words::pointer::Pointer;
 
 // What changes at a crossing: the registers, the pointers, and the frame's row. Or a refusal by its number with all three as they came in.
-#[derive(Drop)]
+#[derive(Clone, Copy)]
 pub struct Crossed {
     pub frame: Frame,
     pub pointers: [Pointer; 8],

@@ -1,2 +1,5 @@
 // Crossings: calls through a gate and returns across domains.
+
+#![tactic(auto)]
+
 pub mod crossing;

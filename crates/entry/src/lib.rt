@@ -1,4 +1,7 @@
 // An image is run in a memory of its own, and four bytes tell how it ended.
+
+#![tactic(auto)]
+
 pub mod image_run;
 
 ghost use Rattle.std.specs.Prelude.{◌≡◌, ◌∷◌, ◌++◌, ◌≤◌, length, drop};

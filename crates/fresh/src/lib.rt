@@ -1,4 +1,7 @@
 // Fresh machines, and the layout with nothing in it.
+
+#![tactic(auto)]
+
 ghost use Rattle.std.specs.Prelude.{◌≡◌, get_or};
 ghost use Rattle.fresh.specs.Fresh.{fresh_of, empty_layout};
 

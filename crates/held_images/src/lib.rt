@@ -1,4 +1,7 @@
 // Images read into the bytes of a record and its words, and written of them; the restart.
+
+#![tactic(auto)]
+
 ghost use Rattle.std.specs.Prelude.{◌≡◌, length};
 ghost use Rattle.words.specs.Answer.{number_of};
 ghost use Rattle.image_reader.specs.Reader.{memory_after, mapped};

@@ -1,4 +1,7 @@
 // A run of the record that bytes hold, with a log of its crossings.
+
+#![tactic(auto)]
+
 ghost use Rattle.std.specs.Prelude.{◌≡◌};
 ghost use Rattle.runs.specs.Run.{end_answer};
 ghost use Rattle.held_runs.specs.Opened.{given};

@@ -6,14 +6,14 @@ ghost use Rattle.image_reader.specs.Private.{header_answer, chunk_answer};
 use crate::bytes::{left, pair};
 
 // What a chunk's header gives: the length of its body, or a refusal.
-#[derive(Drop)]
+#[derive(Clone, Copy)]
 pub enum HeaderAnswer {
     Length(u16),
     Refused(u8),
 }
 
 // What is judged is passed or refused.
-#[derive(Drop)]
+#[derive(Clone, Copy)]
 pub enum Verdict {
     Passed,
     Refused(u8),

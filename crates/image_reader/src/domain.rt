@@ -8,14 +8,14 @@ use crate::chunk::{Verdict, exact};
 use crate::segment::Place;
 
 // What a chunk of kind 3 gives: the stack segment, with rights that are judged, or a refusal.
-#[derive(Drop)]
+#[derive(Clone, Copy)]
 pub enum DomainAnswer {
     Stack(u8),
     Refused(u8),
 }
 
 // The rows of all domains, up to a refusal.
-#[derive(Drop)]
+#[derive(Clone, Copy)]
 pub struct Domains {
     pub stacks: [u8; 8],
     pub rights: [u8; 128],

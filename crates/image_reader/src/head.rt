@@ -11,7 +11,7 @@ use state::record::Start;
 use words::pointer::{Pointer, PointerAnswer, unpack};
 
 // What kind 1 gives: the head, or a refusal.
-#[derive(Drop)]
+#[derive(Clone, Copy)]
 pub enum HeadAnswer {
     Head(Head),
     Refused(u8),

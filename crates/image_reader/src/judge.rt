@@ -16,7 +16,7 @@ use layout_soundness::gates_sound;
 use state::record::Layout;
 
 // The layout of an image that is passed.
-#[derive(Drop)]
+#[derive(Clone, Copy)]
 pub struct Judged {
     pub layout: Layout,
     pub verdict: Verdict,

@@ -1,4 +1,7 @@
 // The reader of images.
+
+#![tactic(auto)]
+
 mod bytes;
 mod chunk;
 mod domain;
@@ -17,7 +20,7 @@ use fresh::fresh;
 use state::record::Machine;
 
 // The machine after a read, and 0 or the number of the refusal.
-#[derive(Drop)]
+#[derive(Clone, Copy)]
 pub struct ReadAnswer {
     pub machine: Machine,
     pub number: u8,

@@ -8,7 +8,7 @@ use crate::bytes::{left, pair};
 use crate::chunk::{HeaderAnswer, Verdict, header};
 
 // A segment's words, its gates and their domain, and the place after its chunk.
-#[derive(Drop)]
+#[derive(Clone, Copy)]
 pub struct SegmentRow {
     pub next: usize,
     pub length: u16,
@@ -17,21 +17,21 @@ pub struct SegmentRow {
 }
 
 // What a chunk of kind 2 gives: a segment, or a refusal.
-#[derive(Drop)]
+#[derive(Clone, Copy)]
 pub enum SegmentAnswer {
     Row(SegmentRow),
     Refused(u8),
 }
 
 // A place to go on at, or a refusal.
-#[derive(Drop)]
+#[derive(Clone, Copy)]
 pub enum Place {
     At(usize),
     Refused(u8),
 }
 
 // The rows of all segments, up to a refusal.
-#[derive(Drop)]
+#[derive(Clone, Copy)]
 pub struct Segments {
     pub lengths: [u16; 16],
     pub gates: [u16; 16],

@@ -1,4 +1,7 @@
 // The writer of images.
+
+#![tactic(auto)]
+
 mod chunk_output;
 mod output;
 
@@ -15,7 +18,7 @@ use state::bases::words_in;
 use state::record::{Layout, Machine};
 
 // 0 and the length of the image that was written, or the number of the refusal and 0.
-#[derive(Drop)]
+#[derive(Clone, Copy)]
 pub struct Written {
     pub length: usize,
     pub number: u8,

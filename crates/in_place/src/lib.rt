@@ -1,4 +1,7 @@
 // The calls on a machine whose record lies behind a reference. Any record and any memory may be lent.
+
+#![tactic(auto)]
+
 ghost use Rattle.std.specs.Prelude.{◌≡◌};
 ghost use Rattle.processor.specs.Calls.{step_call, run_call, stretch_call};
 ghost use Rattle.in_place.specs.InPlace.{step_in_place, ran_in_place};
@@ -7,13 +10,13 @@ use runs::outcome::End;
 use state::record::Machine;
 
 // The number of a refusal or a fault; 0 for a completed instruction.
-#[derive(Drop)]
+#[derive(Clone, Copy)]
 pub struct StepResult {
     pub number: u8,
     pub halted: bool,
 }
 
-#[derive(Drop)]
+#[derive(Clone, Copy)]
 pub struct RunResult {
     pub count: u16,
     pub end: End,

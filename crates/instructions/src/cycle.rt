@@ -21,7 +21,7 @@ use words::offset::literal;
 use words::pointer::{Pointer, PointerAnswer, pack};
 
 // Where an instruction came to.
-#[derive(Drop)]
+#[derive(Clone, Copy)]
 pub enum Event {
     Moved,
     // moved on, with pointer register i set
@@ -33,7 +33,7 @@ pub enum Event {
     Faulted(u8),
 }
 
-#[derive(Drop)]
+#[derive(Clone, Copy)]
 pub struct Cycle {
     pub registers: Registers,
     pub event: Event,

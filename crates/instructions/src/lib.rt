@@ -1,4 +1,7 @@
 // The instructions: everything of an instruction but a crossing.
+
+#![tactic(auto)]
+
 pub mod cycle;
 mod effects;
 mod made;

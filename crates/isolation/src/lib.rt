@@ -1,4 +1,7 @@
 // What the executing domain may see and could write.
+
+#![tactic(auto)]
+
 ghost use Rattle.std.specs.Prelude.{◌≡◌};
 ghost use Rattle.isolation.specs.Visible.{by_static, by_live, may_see, could_write};
 

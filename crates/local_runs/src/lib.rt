@@ -1,4 +1,7 @@
 // A local run: instructions inside the executing domain, up to the first that ends a run or crosses.
+
+#![tactic(auto)]
+
 ghost use Rattle.std.specs.Prelude.{◌≡◌, ◌-◌};
 ghost use Rattle.lent_registers.specs.Columns.{registers_of};
 ghost use Rattle.local_runs.specs.LocalRun.{local_from};
@@ -9,7 +12,7 @@ use state::record::{Frame, Registers};
 use words::pointer::Pointer;
 
 // Where a local run pauses: before the instruction that the event tells, or at the limit (Moved), after count completed ones.
-#[derive(Drop)]
+#[derive(Clone, Copy)]
 pub struct Pause {
     pub pointers: [Pointer; 8],
     pub registers: Registers,

@@ -1,4 +1,7 @@
 // Reads an image from standard input, runs it and prints its crossings.
+
+#![tactic(auto)]
+
 use log_report::log_report;
 
 fn main() {

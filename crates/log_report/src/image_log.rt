@@ -8,7 +8,7 @@ use fresh::{empty_layout, fresh};
 use image_reader::read;
 
 // 0 or the number of the refusal, and how many calls and returns the log has.
-#[derive(Drop)]
+#[derive(Clone, Copy)]
 pub struct Totals {
     pub number: u8,
     pub calls: u16,

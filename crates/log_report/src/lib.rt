@@ -1,4 +1,7 @@
 // What the program prints of an image's crossings.
+
+#![tactic(auto)]
+
 mod image_log;
 mod lines;
 
@@ -10,7 +13,7 @@ use crate::lines::{put_crossings, put_totals};
 use text::put_line;
 
 // The printed bytes are the first length ones; the others are zero.
-#[derive(Drop)]
+#[derive(Clone, Copy)]
 pub struct PrintedLog {
     pub bytes: [u8; 25026],
     pub length: usize,

@@ -1,4 +1,7 @@
 // Words fetched, read and stored, each after its check.
+
+#![tactic(auto)]
+
 ghost use Rattle.std.specs.Prelude.{◌≡◌, ℕ, ◌<◌, get_or, set};
 ghost use Rattle.references.specs.Reference.{verdict_of};
 ghost use Rattle.references.specs.declared.flag.Access.TheVariants as access;
@@ -12,7 +15,7 @@ use state::record::Frame;
 use words::pointer::Pointer;
 
 // What a read gives: the word, or the number of the fault.
-#[derive(Drop)]
+#[derive(Clone, Copy)]
 pub enum WordAnswer {
     Word(u32),
     Refused(u8),

@@ -1,4 +1,7 @@
 // The eight pointer registers.
+
+#![tactic(auto)]
+
 ghost use Rattle.std.specs.Prelude.{◌≡◌, get_or, set};
 ghost use Rattle.state.specs.Record.{no_pointer};
 ghost use Rattle.pointer_registers.specs.Stack.{stack_of, with_base};

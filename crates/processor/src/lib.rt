@@ -1,4 +1,7 @@
 // The calls on a machine: a step, a run, a stretch. Any record and any memory may be lent.
+
+#![tactic(auto)]
+
 ghost use Rattle.std.specs.Prelude.{◌≡◌};
 ghost use Rattle.processor.specs.Calls.{run_call, stretch_call, step_call, step_answer};
 ghost use Rattle.processor.specs.Steps.{ending_number, is_halted};
@@ -9,7 +12,7 @@ use runs::outcome::{End, Outcome};
 use state::record::Machine;
 
 // The number of a refusal or a fault; 0 for a completed instruction.
-#[derive(Drop)]
+#[derive(Clone, Copy)]
 pub struct Stepped {
     pub machine: Machine,
     pub number: u8,

@@ -1,3 +1,6 @@
 // The checks on a whole record, which judge first whether it is sound.
+
+#![tactic(auto)]
+
 pub mod reference;
 pub mod statics;

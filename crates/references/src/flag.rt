@@ -2,7 +2,7 @@
 ghost use Rattle.std.specs.Prelude.{◌≡◌};
 ghost use Rattle.references.specs.Flag.{has, flag_of, is_read};
 
-#[derive(Drop)]
+#[derive(Clone, Copy)]
 pub enum Flag {
     Read,
     Write,
@@ -10,7 +10,7 @@ pub enum Flag {
     Gate,
 }
 
-#[derive(Drop)]
+#[derive(Clone, Copy)]
 pub enum Access {
     Read,
     Write,

@@ -1,4 +1,7 @@
 // The checks of a reference.
+
+#![tactic(auto)]
+
 pub mod flag;
 pub mod live;
 pub mod reference;

@@ -12,7 +12,7 @@ use slice_search::search;
 use state::record::Frame;
 
 // What passing an argument on gives: the source of the capability that covers it, or the refusal 24.
-#[derive(Drop)]
+#[derive(Clone, Copy)]
 pub enum SourceAnswer {
     Source(u8),
     Refused(u8),

@@ -10,7 +10,7 @@ use state::record::Frame;
 use words::pointer::Pointer;
 
 // What a check gives: the index of the word in the memory, or the refusal 21, 22, 24 or 25.
-#[derive(Drop)]
+#[derive(Clone, Copy)]
 pub enum IndexAnswer {
     At(usize),
     Refused(u8),

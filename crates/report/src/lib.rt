@@ -1,4 +1,7 @@
 // What the program prints for an image.
+
+#![tactic(auto)]
+
 mod lines;
 
 ghost use Rattle.std.specs.Prelude.{◌≡◌, ◌≤◌, length, take};
@@ -9,7 +12,7 @@ use entry::image_run::run_image;
 use runs::outcome::End;
 
 // The printed bytes are the first length ones; the others are zero.
-#[derive(Drop)]
+#[derive(Clone, Copy)]
 pub struct Printed {
     pub bytes: [u8; 96],
     pub length: usize,

@@ -1,4 +1,7 @@
 // Reads an image from standard input, runs it and prints the result.
+
+#![tactic(auto)]
+
 use report::report;
 
 fn main() {

@@ -1,4 +1,7 @@
 // Runs: local runs and crossings by turns, up to an end or a limit.
+
+#![tactic(auto)]
+
 pub mod outcome;
 mod renewal;
 mod resume;

@@ -2,7 +2,7 @@
 use state::record::Machine;
 
 // How a run ends. Only a stretch ends as crossed; a refused call runs nothing.
-#[derive(Drop)]
+#[derive(Clone, Copy)]
 pub enum End {
     Halted,
     Faulted(u8),
@@ -11,7 +11,7 @@ pub enum End {
     Refused(u8),
 }
 
-#[derive(Drop)]
+#[derive(Clone, Copy)]
 pub struct Outcome {
     pub machine: Machine,
     pub count: u16,

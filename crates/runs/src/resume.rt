@@ -12,7 +12,7 @@ use state::record::{Frame, Registers};
 use words::pointer::Pointer;
 
 // Where the end is Crossed: the frame's row, and the frames in use after it. Else only registers, pointers and count tell something.
-#[derive(Drop)]
+#[derive(Clone, Copy)]
 pub struct Resumption {
     pub frame: Frame,
     pub pointers: [Pointer; 8],

@@ -1,4 +1,7 @@
 // The part of the memory that a segment occupies.
+
+#![tactic(auto)]
+
 ghost use Rattle.std.specs.Prelude.{◌≡◌, ◌+◌, ◌≤◌, length};
 ghost use Rattle.segments.specs.Segment.{segment_check, segment_number, segment_part, part_start, part_size, word_place};
 ghost use Rattle.words.specs.Answer.{number_of};
@@ -31,7 +34,7 @@ pub fn segment_number(m: Machine, words: &[u32], number: u8) -> u8
 }
 
 // Where the words of a segment begin and end, counted in words of the memory.
-#[derive(Drop)]
+#[derive(Clone, Copy)]
 pub struct Bounds {
     pub from: usize,
     pub to: usize,

@@ -1,4 +1,7 @@
 // The search of a frame's capabilities, handed over as a run of records, in order.
+
+#![tactic(auto)]
+
 ghost use Rattle.std.specs.Prelude.{◌≡◌, ◌≤◌, take};
 ghost use Rattle.capabilities.specs.Search.{covers_of, first_of, capability_answer};
 

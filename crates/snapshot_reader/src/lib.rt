@@ -1,4 +1,7 @@
 // The machine record that bytes hold, and whether they are a record's bytes.
+
+#![tactic(auto)]
+
 mod numbers;
 mod parts;
 mod proper;

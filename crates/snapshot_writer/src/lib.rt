@@ -1,4 +1,7 @@
 // The bytes of a machine record.
+
+#![tactic(auto)]
+
 mod numbers;
 mod parts;
 mod rows;

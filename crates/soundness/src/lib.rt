@@ -1,4 +1,7 @@
 // When a machine record is sound (well-formed).
+
+#![tactic(auto)]
+
 mod capabilities;
 pub mod frames;
 pub mod registers;

@@ -2,7 +2,7 @@
 use words::pointer::Pointer;
 
 // Where a fresh machine starts. 4 bytes.
-#[derive(Drop)]
+#[derive(Clone, Copy)]
 pub struct Start {
     pub word: u16,
     pub segment: u8,
@@ -10,7 +10,7 @@ pub struct Start {
 }
 
 // What an image fixes; no run changes it. Rows past the counts of segments and domains are zero. 222 bytes.
-#[derive(Drop)]
+#[derive(Clone, Copy)]
 pub struct Layout {
     // for each segment: its words, its gates (word numbers below are gates), the domain they lead into
     pub lengths: [u16; 16],
@@ -25,7 +25,7 @@ pub struct Layout {
 }
 
 // An argument's words, the flags given on them, and the domain whose static rights stand behind them. 8 bytes.
-#[derive(Drop)]
+#[derive(Clone, Copy)]
 pub struct Capability {
     pub word: u16,
     pub length: u16,
@@ -36,7 +36,7 @@ pub struct Capability {
 }
 
 // A call through a gate (a dynamic access stack frame): its capabilities, register s and the return location, and the calling domain. 82 bytes.
-#[derive(Drop)]
+#[derive(Clone, Copy)]
 pub struct Frame {
     pub capabilities: [Capability; 9],
     pub s: Pointer,
@@ -46,7 +46,7 @@ pub struct Frame {
 }
 
 // A, the location and the executing domain. 8 bytes.
-#[derive(Drop)]
+#[derive(Clone, Copy)]
 pub struct Registers {
     pub a: u32,
     pub word: u16,
@@ -55,7 +55,7 @@ pub struct Registers {
 }
 
 // A capability that was used lately, its frame's number (that many frames are in use while it is the live one; 0 where the register is empty), and how lately: 15 is last. 10 bytes.
-#[derive(Drop)]
+#[derive(Clone, Copy)]
 pub struct Register {
     pub capability: Capability,
     pub frame: u8,
@@ -63,7 +63,7 @@ pub struct Register {
 }
 
 // The frames in use are the first depth ones; the newest is the live frame. 1,080 bytes.
-#[derive(Drop)]
+#[derive(Clone, Copy)]
 pub struct Machine {
     pub layout: Layout,
     pub registers: Registers,

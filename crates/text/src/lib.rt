@@ -1,4 +1,7 @@
 // Text and numbers, put into an output where they have room.
+
+#![tactic(auto)]
+
 mod numbers;
 
 ghost use Rattle.std.specs.Prelude.{◌≡◌, ◌+◌, leb};

@@ -1,4 +1,7 @@
 // The checks of JUMP, and of CALL up to the argument list.
+
+#![tactic(auto)]
+
 ghost use Rattle.std.specs.Prelude.{◌≡◌};
 ghost use Rattle.transfers.specs.Transfer.{jump_check, call_way, call_answer};
 ghost use Rattle.state.specs.Record.{of_segment};
@@ -8,7 +11,7 @@ use references::statics::static_check;
 use words::pointer::Pointer;
 
 // What a call's checks give: a call inside the domain, one through a gate, or the number of the fault.
-#[derive(Drop)]
+#[derive(Clone, Copy)]
 pub enum CallAnswer {
     Inside,
     Gate,

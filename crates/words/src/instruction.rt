@@ -7,7 +7,7 @@ ghost use Rattle.words.specs.Private.{HasMask};
 use crate::bits::bits;
 
 // An instruction taken apart. 8 bytes.
-#[derive(Drop)]
+#[derive(Clone, Copy)]
 pub struct Instruction {
     pub offset: i32,
     pub opcode: u8,
@@ -17,7 +17,7 @@ pub struct Instruction {
 }
 
 // What a word read as an instruction gives: the instruction, or the refusal 27.
-#[derive(Drop)]
+#[derive(Clone, Copy)]
 pub enum InstructionAnswer {
     Instruction(Instruction),
     Refused(u8),

@@ -1,4 +1,7 @@
 // Pointer words, instruction words, mode words, offsets, and the arithmetic of A.
+
+#![tactic(auto)]
+
 pub mod arithmetic;
 mod bits;
 pub mod instruction;

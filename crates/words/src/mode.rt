@@ -5,7 +5,7 @@ ghost use Rattle.words.specs.ModeWord.{mode_of, mode_answer};
 use crate::bits::bits;
 
 // A length 1-4,096 and at least one flag. 4 bytes.
-#[derive(Drop)]
+#[derive(Clone, Copy)]
 pub struct Mode {
     pub length: u16,
     pub read: bool,
@@ -13,7 +13,7 @@ pub struct Mode {
 }
 
 // What a word read as a mode word gives: the mode, or the refusal 30.
-#[derive(Drop)]
+#[derive(Clone, Copy)]
 pub enum ModeAnswer {
     Mode(Mode),
     Refused(u8),

@@ -3,7 +3,7 @@ ghost use Rattle.std.specs.Prelude.{◌≡◌, pos};
 ghost use Rattle.words.specs.Offset.{displaced_of, literal_of, word_number_answer};
 
 // What a sum gives: a word number 0-4,095, or the refusal 23.
-#[derive(Drop)]
+#[derive(Clone, Copy)]
 pub enum WordNumberAnswer {
     Word(u16),
     Refused(u8),

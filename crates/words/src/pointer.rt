@@ -5,7 +5,7 @@ ghost use Rattle.words.specs.PointerWord.{pointer_of, pointer_word, pointer_answ
 use crate::bits::bits;
 
 // A tag, a segment number 0-15 and a word number 0-4,095. 4 bytes.
-#[derive(Drop)]
+#[derive(Clone, Copy)]
 pub struct Pointer {
     pub word: u16,
     pub segment: u8,
@@ -13,7 +13,7 @@ pub struct Pointer {
 }
 
 // What a word read as a pointer gives: the pointer, or the refusal 26.
-#[derive(Drop)]
+#[derive(Clone, Copy)]
 pub enum PointerAnswer {
     Pointer(Pointer),
     Refused(u8),
