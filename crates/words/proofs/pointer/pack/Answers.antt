@@ -5,8 +5,7 @@ use mir.Val.{bool_byte}
 use Rattle.words.specs.Bit.{bit}
 use Rattle.words.specs.PointerWord.{pointer_word}
 use Rattle.words.proofs.Fields.{joined}
-use Rattle.words.proofs.pointer.pack.Statement.{statement}
-use Rattle.words.proofs.pointer.pack.Tie as tie
+use Rattle.words.proofs.pointer.pack.Goals as goal
 
 one_bit : (t : Bool) → bool_byte t < 2 ^ 1
 one_bit true = omega arith
@@ -16,21 +15,9 @@ same_bit : (t : Bool) → bool_byte t ≡ bit t
 same_bit true = refl
 same_bit false = refl
 
-cast-word : tie.Need-overflow-cast-word
-cast-word c = search rules
-
-cast-segment : tie.Need-overflow-cast-segment
-cast-segment c = search rules
-
-cast-result : tie.Need-overflow-cast-result
-cast-result c = search rules
-
-returns : tie.Need-returns
+pub returns : goal.returns
 unfolding pointer_word
 returns c =
     let p = c.before.before.before.args.p in
     rw (and_mask p.segment 4, and_mask p.word 12, ← same_bit p.tag)
     (joined (bool_byte p.tag) (p.segment % 2 ^ 4) (p.word % 2 ^ 12) (one_bit p.tag) (mod-lt _ (pow_pos 4)) (mod-lt _ (pow_pos 12)))
-
-pub pack-spec : {M : Type 1} → statement M
-pack-spec = tie.close (tie.spec cast-word cast-segment cast-result returns)

@@ -4,8 +4,7 @@ use lib.IntN.{sub_ℕ}
 use mir.ValLaws.{to_z-of_z, to_z_pos}
 use Rattle.words.specs.Offset.{signed_of}
 use Rattle.words.proofs.Integers.{sub-mag, sub-above, sub-below}
-use Rattle.words.proofs.instruction.signed.Statement.{statement}
-use Rattle.words.proofs.instruction.signed.Tie as tie
+use Rattle.words.proofs.instruction.signed.Goals as goal
 
 -- twelve bits turned by 2,048
 abbrev turned : ℕ → ℕ
@@ -29,17 +28,8 @@ value n h = by (ltb n 2048) refl
         let l : 2048 ≤ n = ltb-false n 2048 e in
         simp e (sub-below (turned n) 2048 (omega arith) ∙ ap negsuc (omega arith) ∙ sym (sub-below n 4096 h))
 
-add-result : tie.Need-overflow-add-result
-add-result c = search rules
+pub overflow_sub-result : goal.overflow_sub-result
+overflow_sub-result c = rw (read c.args.offset) (small c.args.offset)
 
-cast-result : tie.Need-overflow-cast-result
-cast-result c = search rules
-
-sub-result : tie.Need-overflow-sub-result
-sub-result c = rw (read c.args.offset) (small c.args.offset)
-
-returns : tie.Need-returns
+pub returns : goal.returns
 returns c = simp (read c.args.offset) (to_z-of_z w32 _ (small c.args.offset) ∙ value c.args.offset c.requires)
-
-pub signed-spec : {M : Type 1} → statement M
-signed-spec = tie.close (tie.spec add-result cast-result sub-result returns)
