@@ -15,7 +15,7 @@ use Rattle.executions.proofs.Fit.{Fits, Fit}
 use Rattle.isolation.specs.Visible.{may_see, could_write, word_at}
 use Rattle.isolation.specs.Stores.{Store, stored_all, received, Each}
 use Rattle.isolation.specs.Isolation.{Agree, Unchanged, Received, Writable, Isolated}
-use Rattle.isolation.proofs.Hidden.{seen-there}
+use Rattle.isolation.proofs.Unseen.{seen-there}
 use Rattle.isolation.proofs.Stored.{stored-length, stored_on, each_on, after-stores, same_after, kept-after}
 
 -- two memories that hold all words, and agree on those that the domain may see; the registers fit

@@ -10,7 +10,7 @@ use Rattle.runs.specs.Step.{Completion, stopped, proceeded, crossing, Done, exec
 use Rattle.runs.specs.Run.{crossed, after, after_completion, run_from}
 use Rattle.executions.proofs.Fit.{Fit}
 use Rattle.isolation.proofs.Theorem.{isolation-fits}
-use Rattle.isolation.proofs.Hidden.{hidden-agrees}
+use Rattle.isolation.proofs.Unseen.{hidden-agrees}
 use Rattle.isolation.proofs.ReadOnly.{no_write}
 use Rattle.isolation.specs.Statements.{RegistersSound, Secrecy, RunIsolation, Integrity, ReadOnly}
 

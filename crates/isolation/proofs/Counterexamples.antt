@@ -15,7 +15,7 @@ use Rattle.processor.specs.Calls.{stretch_of}
 use Rattle.isolation.specs.Visible.{by_static, by_live, could_write, existing, place, word_at}
 use Rattle.isolation.specs.Isolation.{Unchanged}
 use Rattle.isolation.proofs.Or.{either}
-use Rattle.isolation.proofs.Hidden.{static-there, read-there, differs}
+use Rattle.isolation.proofs.Unseen.{static-there, read-there, differs}
 use Rattle.isolation.proofs.Worked.{start, memory, called, computed, start-sound, called-sound, fits, zeros, enough}
 
 -- the claim of equal records, with another test of what the domain may see

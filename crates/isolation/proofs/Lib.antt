@@ -1,7 +1,7 @@
 pub mod Or
 pub mod Passed
 pub mod Sees
-pub mod Hidden
+pub mod Unseen
 pub mod Stored
 pub mod Stretch
 pub mod Twins

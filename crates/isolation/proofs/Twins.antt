@@ -15,7 +15,7 @@ use Rattle.executions.proofs.Says.{Says}
 use Rattle.executions.proofs.Fit.{Fits, Fit, GoesFit}
 use Rattle.isolation.specs.Stores.{Store, stores_through, stores_by, stored_all, Each}
 use Rattle.isolation.specs.Isolation.{Agree, Writable}
-use Rattle.isolation.proofs.Hidden.{written-there}
+use Rattle.isolation.proofs.Unseen.{written-there}
 use Rattle.isolation.proofs.Sees.{same-reader, same-fetch, target}
 use Rattle.isolation.proofs.Stretch.{GoesOn, execute_with, made_with}
 

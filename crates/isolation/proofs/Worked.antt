@@ -43,7 +43,7 @@ use Rattle.processor.specs.Calls.{stretch_of}
 use Rattle.isolation.specs.Visible.{by_static, by_live, may_see, could_write, existing, place, word_at}
 use Rattle.isolation.specs.Stores.{stores_of}
 use Rattle.isolation.specs.Isolation.{Agree, Isolated}
-use Rattle.isolation.proofs.Hidden.{hidden-agrees}
+use Rattle.isolation.proofs.Unseen.{hidden-agrees}
 use Rattle.isolation.proofs.Main.{isolation}
 
 -- a row of n numbers that begins as given and goes on with zeros

@@ -2,7 +2,7 @@
 
 #![tactic(auto)]
 
-mod capabilities;
+mod rows;
 pub mod frames;
 pub mod registers;
 

@@ -1,4 +1,4 @@
--- `soundness::capabilities::rows_sound` meets its contract.
+-- `soundness::rows::rows_sound` meets its contract.
 use Prim.Native.Nat.{◌-◌}
 use borrow.Author.Rules.{rules}
 use lib.Dec.{ltb}
@@ -7,8 +7,8 @@ use Rattle.words.specs.Answer.{if◌then◌else◌}
 use Rattle.state.specs.Record.{no_capability}
 use Rattle.soundness.specs.Sound.{capability_test, empty_capability}
 use Rattle.layout_soundness.proofs.All.{Left, none, more, fails, done}
-use Rattle.soundness.proofs.capabilities.rows_sound.Statement.{statement}
-use Rattle.soundness.proofs.capabilities.rows_sound.Tie as tie
+use Rattle.soundness.proofs.rows.rows_sound.Statement.{statement}
+use Rattle.soundness.proofs.rows.rows_sound.Tie as tie
 
 abbrev invariant-loop : tie.invariant-loop
 invariant-loop domains count capabilities j₀ j = Left 9 (λ k. if ltb k count then capability_test domains (get_or capabilities k no_capability) else empty_capability (get_or capabilities k no_capability)) j

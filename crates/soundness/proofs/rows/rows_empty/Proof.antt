@@ -1,12 +1,12 @@
--- `soundness::capabilities::rows_empty` meets its contract.
+-- `soundness::rows::rows_empty` meets its contract.
 use Prim.Native.Nat.{◌-◌}
 use borrow.Author.Rules.{rules}
 use lib.ListN.{get_or}
 use Rattle.state.specs.Record.{no_capability}
 use Rattle.soundness.specs.Sound.{empty_capability}
 use Rattle.layout_soundness.proofs.All.{Left, none, more, fails, done}
-use Rattle.soundness.proofs.capabilities.rows_empty.Statement.{statement}
-use Rattle.soundness.proofs.capabilities.rows_empty.Tie as tie
+use Rattle.soundness.proofs.rows.rows_empty.Statement.{statement}
+use Rattle.soundness.proofs.rows.rows_empty.Tie as tie
 
 abbrev invariant-loop : tie.invariant-loop
 invariant-loop capabilities j₀ j = Left 9 (λ k. empty_capability (get_or capabilities k no_capability)) j

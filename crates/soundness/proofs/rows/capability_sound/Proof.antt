@@ -1,10 +1,10 @@
--- `soundness::capabilities::capability_sound` meets its contract.
+-- `soundness::rows::capability_sound` meets its contract.
 use borrow.Author.Rules.{rules}
 use borrow.Author.Tests.{le-leb, lt-leb, le-ltb, lt-ltb}
 use Rattle.soundness.specs.Sound.{capability_test}
 use Rattle.layout_soundness.proofs.Tests.{pass, stop, inside, below, above}
-use Rattle.soundness.proofs.capabilities.capability_sound.Statement.{statement}
-use Rattle.soundness.proofs.capabilities.capability_sound.Tie as tie
+use Rattle.soundness.proofs.rows.capability_sound.Statement.{statement}
+use Rattle.soundness.proofs.rows.capability_sound.Tie as tie
 
 returns : tie.Need-returns
 unfolding capability_test

@@ -1,11 +1,11 @@
--- `soundness::capabilities::capability_empty` meets its contract.
+-- `soundness::rows::capability_empty` meets its contract.
 use mathlib.Core.Path.{refl, ap}
 use mathlib.Core.Bool.{not}
 use borrow.Author.Tests.{eq-eqb, ne_eqb}
 use Rattle.soundness.specs.Sound.{empty_capability}
 use Rattle.layout_soundness.proofs.Tests.{pass, stop}
-use Rattle.soundness.proofs.capabilities.capability_empty.Statement.{statement}
-use Rattle.soundness.proofs.capabilities.capability_empty.Tie as tie
+use Rattle.soundness.proofs.rows.capability_empty.Statement.{statement}
+use Rattle.soundness.proofs.rows.capability_empty.Tie as tie
 
 returns : tie.Need-returns
 unfolding empty_capability

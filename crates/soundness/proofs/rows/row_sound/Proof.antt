@@ -1,9 +1,9 @@
--- `soundness::capabilities::row_sound` meets its contract.
+-- `soundness::rows::row_sound` meets its contract.
 use borrow.Author.Rules.{rules}
 use borrow.Author.Tests.{le-ltb, lt-ltb}
 use Rattle.layout_soundness.proofs.Tests.{in_then, in-else}
-use Rattle.soundness.proofs.capabilities.row_sound.Statement.{statement}
-use Rattle.soundness.proofs.capabilities.row_sound.Tie as tie
+use Rattle.soundness.proofs.rows.row_sound.Statement.{statement}
+use Rattle.soundness.proofs.rows.row_sound.Tie as tie
 
 capability-sound-requires : tie.Need-capability-sound-requires
 capability-sound-requires c κs = search rules
