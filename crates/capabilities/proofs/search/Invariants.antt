@@ -1,0 +1,16 @@
+-- `capabilities::search` meets its contract.
+use Prim.Native.Nat.{◌≤◌, ◌-◌}
+use mathlib.Core.Path.{◌≡◌, sym, refl, ◌∙◌}
+use mathlib.Core.Bool.{Bool}
+use Rattle.state.specs.declared.record.Capability.{Capability}
+use borrow.Author.Rules.{rules}
+use lib.ListN.{length}
+use Rattle.capabilities.specs.Search.{covers_of}
+use Rattle.capabilities.proofs.First.{Passed, hit, miss, none-counted, none-there}
+use Rattle.capabilities.proofs.search.Given as goal
+
+abbrev pub invariant-loop-i : goal.invariant-loop-i
+invariant-loop-i l = (l.i ≤ l.count) × Passed (covers_of l.segment l.word l.length l.read l.write) l.capabilities l.count l.i
+
+abbrev pub decreases-loop-i : goal.decreases-loop-i
+decreases-loop-i l = l.count - l.i
