@@ -1,4 +1,5 @@
 -- `pointer_registers::pointer_at` meets its contract.
+use Rattle.std.proofs.Common.{◌≡◌, arith}
 use borrow.Author.Rules.{rules}
 use mathlib.Core.Path.{refl, sym}
 use lib.ListN.{get_or-eq_default}
@@ -31,5 +32,6 @@ pub returns-in-6 : goal.returns-in-6
 returns-in-6 c = rw c.before.in-6.is refl
 
 pub returns-in_default : goal.returns-in_default
-returns-in_default c = let n = c.before.in-0.rest in
-    ?
+returns-in_default c =
+    let last : c.args.k ≡ 7 = omega arith in
+    rw last refl

@@ -1,4 +1,5 @@
 -- `pointer_registers::with_pointer` meets its contract.
+use Rattle.std.proofs.Common.{◌≡◌, arith}
 use borrow.Author.Rules.{rules}
 use mathlib.Core.Path.{refl, sym}
 use lib.Seq.{set_out}
@@ -30,5 +31,6 @@ pub returns-in-6 : goal.returns-in-6
 returns-in-6 c = rw c.in-6.is refl
 
 pub returns-in_default : goal.returns-in_default
-returns-in_default c = let n = c.in-0.rest in
-    rw (eighth _ c.before.if-k-ge8.false n.0.0.0.0.0.0.1 n.0.0.0.0.0.1 n.0.0.0.0.1 n.0.0.0.1 n.0.0.1 n.0.1 n.1) refl
+returns-in_default c =
+    let last : c.args.k ≡ 7 = omega arith in
+    rw last refl
