@@ -35,11 +35,11 @@ pub above : {low high n : ℕ} → low ≤ n → high < n → between low high n
 above p q = simp (le-leb _ _ p, lt-leb _ _ q)
 
 -- what a test called in a condition `!f(..)` answered
-pub answered-true : {t r : Bool} → r ≡ t → not r ≡ false → t ≡ true
-answered-true p q = sym p ∙ not-false _ q
+pub answered-true : {t r : Bool} → r ≡ t → r ≡ true → t ≡ true
+answered-true p q = sym p ∙ q
 
-pub answered-false : {t r : Bool} → r ≡ t → not r ≡ true → t ≡ false
-answered-false p q = sym p ∙ not-true _ q
+pub answered-false : {t r : Bool} → r ≡ t → r ≡ false → t ≡ false
+answered-false p q = sym p ∙ q
 
 -- what tests that are passed say, and back
 pub both : (a b : Bool) → (a && b) ≡ true → (a ≡ true) × (b ≡ true)

@@ -31,11 +31,11 @@ pub in-else : {t b r : Bool} (a : Bool) → t ≡ false → r ≡ b → r ≡ (i
 in-else a p q = simp (p, q)
 
 -- what a test called in a condition `!f(..)` answered
-pub answered-true : {t r : Bool} → r ≡ t → not r ≡ false → t ≡ true
-answered-true p q = sym p ∙ not-false _ q
+pub answered-true : {t r : Bool} → r ≡ t → r ≡ true → t ≡ true
+answered-true p q = sym p ∙ q
 
-pub answered-false : {t r : Bool} → r ≡ t → not r ≡ true → t ≡ false
-answered-false p q = sym p ∙ not-true _ q
+pub answered-false : {t r : Bool} → r ≡ t → r ≡ false → t ≡ false
+answered-false p q = sym p ∙ q
 
 -- not more and not equal is less
 pub strict : (a b : ℕ) → a ≤ b → (a ≡ b → ⊥) → a < b
