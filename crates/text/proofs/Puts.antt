@@ -55,11 +55,11 @@ room-left size at count h = by (leb count (size - at)) refl
     by true e = sym (le-leb (at + count) size (omega (arith, leb-true count (size - at) e)))
     by false e = sym (lt-leb (at + count) size (omega (arith, leb-false count (size - at) e)))
 
-pub room-is : (t : Bool) (k size : ℕ) → t ≡ leb k size → not t ≡ false → k ≤ size
-room-is t k size e h = leb-true k size (sym e ∙ not-false t h)
+pub room-is : (t : Bool) (k size : ℕ) → t ≡ leb k size → t ≡ true → k ≤ size
+room-is t k size e h = leb-true k size (sym e ∙ h)
 
-pub room-none : (t : Bool) (k size : ℕ) → t ≡ leb k size → not t ≡ true → size < k
-room-none t k size e h = leb-false k size (sym e ∙ not-true t h)
+pub room-none : (t : Bool) (k size : ℕ) → t ≡ leb k size → t ≡ false → size < k
+room-none t k size e h = leb-false k size (sym e ∙ h)
 
 -- the length of what is printed is that of a part of the bytes
 pub printed-counts : (size : ℕ) (xs bytes : List ℕ) (n : ℕ) → n ≤ size → n ≡ length xs → bytes ≡ printed_in size xs → (n ≤ length bytes) × (n ≡ length (take n bytes))

@@ -1,0 +1,6 @@
+-- `recent::registers::empty` meets its contract.
+use borrow.Author.Rules.{rules}
+use Rattle.recent.proofs.registers.empty.Goals as goal
+
+pub returns : goal.returns
+returns c = simp c.no_capability.ensures
