@@ -1,4 +1,0 @@
-pub mod Asked
-pub mod Front
-pub mod Passed
-pub mod Rules
