@@ -1,0 +1,25 @@
+use borrow.Author.Rules.{rules}
+use Prim.Native.Nat.{◌≤◌, ◌-◌}
+use native.Mathlib.Omega.{arith}
+use mathlib.Core.Path.{◌≡◌, sym, refl, ◌∙◌}
+use Rattle.lent_registers.proofs.Whole.{Spreading, spreads-on, spread-all}
+use Rattle.lent_registers.proofs.columns.spread.Reads as reads
+use Rattle.lent_registers.proofs.columns.spread.Lts as lts
+use Rattle.lent_registers.proofs.cells.put.Reads as put_reads
+use Rattle.lent_registers.proofs.columns.spread.Goals as goal
+
+-- src/columns.rt:77:5
+pub loop-i-init : goal.loop-i-init
+loop-i-init c = record { within = omega arith; room = refl; laid = λ k h. absurd (omega (arith, h)) }
+
+-- src/columns.rt:79:9
+pub put-requires : goal.put-requires
+put-requires c = (c.loop-i-test.true, c.loop-i.invariant.room)
+
+-- src/columns.rt:77:5
+pub loop-i-preserved : goal.loop-i-preserved
+loop-i-preserved c = spreads-on _ _ _ _ c.loop-i-test.true c.loop-i.invariant c.put.ensures
+
+-- src/columns.rt:72:1
+pub returns : goal.returns
+returns c = spread-all _ _ _ c.well_formed.0.1.0.1 c.loop-i-test.false c.loop-i.invariant

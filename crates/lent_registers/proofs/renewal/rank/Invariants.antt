@@ -1,0 +1,14 @@
+use borrow.Author.Rules.{rules}
+use Prim.Native.Nat.{◌≤◌, ◌-◌}
+use Rattle.lent_registers.proofs.Loops.{Ranking, ranks-none, ranks-next, ranks-all}
+use mathlib.Core.Path.{◌≡◌, sym, refl, ◌∙◌}
+use Rattle.lent_registers.proofs.renewal.rank.Reads as reads
+use Rattle.lent_registers.proofs.renewal.rank.Lts as lts
+use Rattle.lent_registers.proofs.renewal.counted.Reads as counted-reads
+use Rattle.lent_registers.proofs.renewal.rank.Given as goal
+
+abbrev pub invariant-loop-i : goal.invariant-loop-i
+invariant-loop-i l = Ranking l.frame l.place l.recent l.i l.n
+
+abbrev pub decreases-loop-i : goal.decreases-loop-i
+decreases-loop-i l = 16 - l.i
