@@ -1,0 +1,8 @@
+-- `memory::put_at` meets its contract.
+use borrow.Author.Rules.{rules}
+use mathlib.Core.Path.{sym}
+use lib.Seq.{set_out}
+use Rattle.memory.proofs.put_at.Goals as goal
+
+pub returns-else-i-words : goal.returns-else-i-words
+returns-else-i-words c = sym (set_out _ _ _ c.if-i-words.false)
