@@ -3,7 +3,7 @@ use Prim.Native.Nat.{ℕ, zero, suc, ◌+◌, ◌-◌, ◌<◌, ◌≤◌}
 use native.Mathlib.Omega.{arith}
 use native.Mathlib.Decide.{ℕ_discrete}
 use mathlib.Core.Path.{◌≡◌, refl, sym, ◌∙◌, ap, subst}
-use mathlib.Core.Bool.{Bool, true, false, not, ◌&&◌, and_assoc}
+use mathlib.Core.Bool.{Bool, true, false, ◌&&◌, and_assoc}
 use Rattle.layout_soundness.specs.SoundLayout.{all_from}
 use Rattle.layout_soundness.proofs.Tests.{answered-true, answered-false, both, join}
 
@@ -21,10 +21,10 @@ module _ {n : ℕ} {p : ℕ → Bool} {i : ℕ} (l : Left n p i) where
   unfolding all_from
   now h = l.rest ∙ ap (λ (k : ℕ). all_from k i p) (let z : n - i ≡ suc (n - (i + 1)) = omega arith in z)
 
-  pub fails : {r : Bool} → i < n → r ≡ p i → not r ≡ true → false ≡ all_from n 0 p
+  pub fails : {r : Bool} → i < n → r ≡ p i → r ≡ false → false ≡ all_from n 0 p
   fails h e t = sym (now h ∙ simp (answered-false e t))
 
-  pub more : {r : Bool} → i < n → r ≡ p i → not r ≡ false → Left n p (i + 1)
+  pub more : {r : Bool} → i < n → r ≡ p i → r ≡ true → Left n p (i + 1)
   more h e t = record { most = omega arith; rest = now h ∙ simp (answered-true e t) }
 
   pub done : n ≤ i → true ≡ all_from n 0 p

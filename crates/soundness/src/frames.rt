@@ -3,8 +3,8 @@ ghost use Rattle.std.specs.Prelude.{◌≡◌, ltb};
 ghost use Rattle.words.specs.Answer.{if◌then◌else◌};
 ghost use Rattle.soundness.specs.Sound.{empty_frame, frame_test, frames_test};
 
-use crate::rows::{rows_empty, rows_sound};
 use crate::registers::{pointer_empty, pointer_sound};
+use crate::rows::{rows_empty, rows_sound};
 use state::record::Frame;
 
 pub fn frame_sound(domains: u8, f: Frame) -> bool

@@ -2,9 +2,9 @@
 
 #![tactic(auto)]
 
-mod rows;
 pub mod frames;
 pub mod registers;
+mod rows;
 
 ghost use Rattle.std.specs.Prelude.{◌≡◌};
 ghost use Rattle.soundness.specs.Sound.{sound_test};

@@ -1,0 +1,13 @@
+-- `soundness::registers::pointers_sound` meets its contract.
+use Prim.Native.Nat.{◌-◌}
+use lib.ListN.{get_or}
+use Rattle.state.specs.Record.{no_pointer}
+use Rattle.soundness.specs.Sound.{pointer_test}
+use Rattle.layout_soundness.proofs.All.{Left}
+use Rattle.soundness.proofs.registers.pointers_sound.Given as goal
+
+abbrev pub invariant-loop-i : goal.invariant-loop-i
+invariant-loop-i l = Left 8 (λ k. pointer_test (get_or l.pointers k no_pointer)) l.i
+
+abbrev pub decreases-loop-i : goal.decreases-loop-i
+decreases-loop-i l = 8 - l.i
