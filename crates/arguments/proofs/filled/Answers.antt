@@ -1,0 +1,6 @@
+-- `arguments::filled` meets its contract.
+use borrow.Author.Rules.{rules}
+use Rattle.arguments.proofs.filled.Goals as goal
+
+pub returns : goal.returns
+returns c = simp c.with_row-capabilities.ensures

@@ -1,0 +1,33 @@
+-- `arguments::with_row` meets its contract.
+use borrow.Author.Rules.{rules}
+use mathlib.Core.Path.{refl}
+use Rattle.words.proofs.Last.{ninth}
+use Rattle.arguments.proofs.with_row.Goals as goal
+
+pub returns-in-0 : goal.returns-in-0
+returns-in-0 c = rw c.in-0.is refl
+
+pub returns-in-1 : goal.returns-in-1
+returns-in-1 c = rw c.in-1.is refl
+
+pub returns-in-2 : goal.returns-in-2
+returns-in-2 c = rw c.in-2.is refl
+
+pub returns-in-3 : goal.returns-in-3
+returns-in-3 c = rw c.in-3.is refl
+
+pub returns-in-4 : goal.returns-in-4
+returns-in-4 c = rw c.in-4.is refl
+
+pub returns-in-5 : goal.returns-in-5
+returns-in-5 c = rw c.in-5.is refl
+
+pub returns-in-6 : goal.returns-in-6
+returns-in-6 c = rw c.in-6.is refl
+
+pub returns-in-7 : goal.returns-in-7
+returns-in-7 c = rw c.in-7.is refl
+
+pub returns-in_default : goal.returns-in_default
+returns-in_default c = let n = c.in_default.in_default-own.rest in
+    rw (ninth _ c.requires n.0.0.0.0.0.0.0.1 n.0.0.0.0.0.0.1 n.0.0.0.0.0.1 n.0.0.0.0.1 n.0.0.0.1 n.0.0.1 n.0.1 n.1) refl
