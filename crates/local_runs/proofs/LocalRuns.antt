@@ -95,7 +95,7 @@ module _ (lengths gates rights stacks bases : List ℕ) (depth : ℕ) (frame : F
 
       -- an instruction that does not
       pub pauses : (s : Registers) (e : Event) → event_answer s ps e ≡ cycle → Stops e → whole ≡ paused r ps after renewal n e
-      pauses s e h stops = next ∙ ap (after_cycle _ n r ps after renewal) (sym h) ∙ by e stops
+      pauses s e h stops = next ∙ ap (after_cycle (local_from lengths gates rights stacks bases depth frame (limit - (n + 1)) (n + 1)) n r ps after renewal) (sym h) ∙ by e stops
         where
           by : (x : Event) → Stops x
               → after_cycle (local_from lengths gates rights stacks bases depth frame (limit - (n + 1)) (n + 1)) n r ps after renewal (event_answer s ps x) ≡ paused r ps after renewal n x

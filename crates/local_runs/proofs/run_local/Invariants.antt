@@ -1,0 +1,28 @@
+-- `local_runs::run_local` meets its contract.
+use Prim.Native.Nat.{ℕ, ◌-◌, ◌≤◌}
+use native.Mathlib.Omega.{arith}
+use mathlib.Core.Path.{sym, ap, ◌∙◌}
+use mathlib.Core.Logic.{⊎_elim}
+use mathlib.Core.List.{List, [], ◌∷◌}
+use borrow.Author.Rules.{rules}
+use types.Run.{OneOf}
+use lib.ListN.{length}
+use Rattle.words.specs.Answer.{ok}
+use Rattle.words.specs.declared.pointer.Pointer.{Pointer}
+use Rattle.state.specs.declared.record.Registers.{Registers}
+use Rattle.instructions.specs.declared.cycle.Event.TheVariants as event
+use Rattle.instructions.specs.Cycle.{moved, event_answer}
+use Rattle.lent_registers.specs.Columns.{registers_of}
+use Rattle.local_runs.specs.LocalRun.{Paused}
+use Rattle.local_runs.proofs.LocalRuns.{Local, starts, spent, goes, pauses, stops, cycle-length}
+use Rattle.local_runs.proofs.run_local.Given as goal
+
+-- the registers, which lie apart
+abbrev held : ℕ → ℕ → ℕ → ℕ → Registers
+held a word segment domain = record { a = a; word = word; segment = segment; domain = domain }
+
+abbrev pub invariant-loop-n : goal.invariant-loop-n
+invariant-loop-n l = Local l.lengths l.gates l.rights l.stacks l.bases l.depth l.frame l.limit l.from (held l.initial.a l.initial.word l.initial.segment l.initial.domain) l.initial.pointers l.initial.words (registers_of l.initial.recent) l.n (held l.a l.word l.segment l.domain) l.pointers l.words (registers_of l.recent)
+
+abbrev pub decreases-loop-n : goal.decreases-loop-n
+decreases-loop-n l = l.limit - l.n
