@@ -1,0 +1,5 @@
+use borrow.Author.Rules.{rules}
+use Rattle.crossings.proofs.crossing.with_tag.Goals as goal
+
+pub returns : goal.returns
+returns c = rw c.pointer_at-a.ensures at c.with_pointer.ensures
