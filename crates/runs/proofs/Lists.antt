@@ -80,10 +80,10 @@ module _ (depth : ℕ) (f : Frame) where
   unfolding renewed_all
   word_two a i rs e = rw e refl
 
-  pub word_made : (a : Pointer) (i : ℕ) (rs next : List Register) (x : Answer ℕ) → eqb i 2 ≡ false → displaced_of a.word (pos i) ≡ x
+  pub word-made : (a : Pointer) (i : ℕ) (rs next : List Register) (x : Answer ℕ) → eqb i 2 ≡ false → displaced_of a.word (pos i) ≡ x
       → next ≡ renewed rs depth f (made_read (placed (x >>= (λ word. ok (at_word a word))))) → next ≡ renewed_all rs depth f (word_made a i)
   unfolding renewed_all displaced_by
-  word_made a i rs next x e q n = rw (e, q) n
+  word-made a i rs next x e q n = rw (e, q) n
 
   pub nothing-renewed : (rs : List Register) → rs ≡ renewed rs depth f (made_read no_pointer)
   unfolding renewed
