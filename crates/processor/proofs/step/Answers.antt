@@ -1,0 +1,12 @@
+-- `processor::step` meets its contract.
+use mathlib.Core.Path.{◌≡◌, sym, ap, ◌∙◌}
+use borrow.Author.Rules.{rules}
+use Rattle.processor.specs.Calls.{run_call}
+use Rattle.processor.specs.Steps.{as_step}
+use Rattle.processor.proofs.Steps.{call-one}
+use Rattle.processor.proofs.step.Goals as goal
+
+pub returns : goal.returns
+unfolding run_call
+returns c =
+    simp (c.halts.ensures, c.number_of.ensures) (ap as_step c.call-o.ensures ∙ call-one _ _)
