@@ -26,7 +26,7 @@ use Rattle.executions.proofs.Says.{Says, says-bind, says-accept}
 use Rattle.executions.proofs.Plans.{base-sound, exists-sound}
 use Rattle.executions.proofs.Arguments.{LiveSound}
 use Rattle.executions.proofs.Frames.{Framed, frame-sound}
-use Rattle.executions.proofs.RecentKept.{in_use, called-recent, left-recent}
+use Rattle.executions.proofs.RecentKept.{in-use, called-recent, left-recent}
 use Rattle.executions.proofs.Parts.{live, frame_for, leave_number}
 
 -- a sound machine with its eight rows of frames
@@ -69,10 +69,10 @@ module _ (m : Machine) (w : Whole m) where
   s = w.sound
 
   live-sound : (1 ≤ m.depth) → FrameSound domains (live m)
-  live-sound some = rw (in_use m.depth s.frames.most) (s.frames.used (m.depth - 1) (omega arith))
+  live-sound some = rw (in-use m.depth s.frames.most) (s.frames.used (m.depth - 1) (omega arith))
 
   pub live-held : LiveSound domains (in_use m.depth) (live m)
-  live-held n = (live-sound (omega (arith, n, in_use m.depth s.frames.most))).used
+  live-held n = (live-sound (omega (arith, n, in-use m.depth s.frames.most))).used
 
   entered-whole : (p : Pointer) (f : Frame) → PointerSound p → m.depth < 8 → Framed domains f → Whole (entered m p f)
   unfolding entered
@@ -126,5 +126,5 @@ module _ (m : Machine) (w : Whole m) where
       back : leave_number m p ≡ 0 → Whole (left m q p (live m))
       back e =
           let f = leave-facts m.layout.lengths m.layout.rights (in_use m.depth) (live m) (get_or m.pointers 1 no_pointer) p e in
-          let some : 1 ≤ m.depth = omega (arith, f.0, in_use m.depth s.frames.most) in
+          let some : 1 ≤ m.depth = omega (arith, f.0, in-use m.depth s.frames.most) in
           left-whole q p (exists-sound m.layout.lengths p s.layout.lengths f.1) some

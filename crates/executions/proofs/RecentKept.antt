@@ -25,14 +25,14 @@ use Rattle.crossings.specs.Crossing.{called_recent, left_recent}
 use Rattle.runs.specs.Step.{recent_after}
 
 -- a depth that a sound record has
-pub in_use : (depth : ℕ) → depth ≤ 8 → in_use depth ≡ depth
-in_use depth h = rw (le-leb depth 8 h)
+pub in-use : (depth : ℕ) → depth ≤ 8 → in_use depth ≡ depth
+in-use depth h = rw (le-leb depth 8 h)
 
 module _ (depth : ℕ) (fs : List Frame) (few : depth ≤ 8) where
   -- by a reference
   pub renewed-recent : (rs : List Register) → recent_test depth fs rs ≡ true → (r : MadeReference) → recent_test depth fs (renewed rs (in_use depth) (live_frame depth fs) r) ≡ true
   unfolding renewed referred_to
-  renewed-recent rs t r = rw (in_use depth few) (by r.pointer.tag)
+  renewed-recent rs t r = rw (in-use depth few) (by r.pointer.tag)
     where
       by : (u : Bool)
           → recent_test depth fs
@@ -54,14 +54,14 @@ module _ (depth : ℕ) (fs : List Frame) (few : depth ≤ 8) where
     called-recent room a f some rows =
         let made = list_made a (3 + 2 * (f.count - 1)) 0 in
         let s = called-sound depth fs (renewed_all rs (in_use depth) (live_frame depth fs) made) (all-recent rs t made) room f some rows in
-        rw (in_use depth few) (rw (in_use depth few) at s)
+        rw (in-use depth few) (rw (in-use depth few) at s)
 
     -- by a return; what is put in the frame's row does not matter
     pub left-recent : 1 ≤ depth → (g : Frame) (q : Pointer) → recent_test (depth - 1) (set fs (depth - 1) g) (left_recent rs (in_use depth) (live_frame depth fs) q) ≡ true
     unfolding left_recent
     left-recent some g q =
         let s = returned-sound depth fs (renewed rs (in_use depth) (live_frame depth fs) (made_read q)) (renewed-recent rs t (made_read q)) some g in
-        rw (in_use depth few) (rw (in_use depth few) at s)
+        rw (in-use depth few) (rw (in-use depth few) at s)
 
 -- after the references of the instruction that a machine fetched
 pub after-recent : (m : Machine) → m.depth ≤ 8 → recent_test m.depth m.frames m.recent ≡ true → (read : Reader) (i : Answer Instruction)

@@ -21,7 +21,7 @@ use Rattle.references.specs.Live.{live_match, sourced, live_of, live_through}
 use Rattle.references.specs.Private.{found_source}
 use Rattle.references.proofs.Sources.{sourced_by, through-found}
 use Rattle.executions.proofs.Parts.{live}
-use Rattle.executions.proofs.RecentKept.{in_use}
+use Rattle.executions.proofs.RecentKept.{in-use}
 use Rattle.executions.proofs.Fit.{Fit}
 
 -- with the list of no registers
@@ -31,7 +31,7 @@ through-none lengths rights depth f a s w = ap (λ (x : Answer Capability). sour
 
 module _ (m : Machine) (f : Fit m) where
   contents : contents_test (in_use m.depth) m.frames m.recent ≡ true
-  contents = rw (in_use m.depth f.few) (recent-contents m.depth m.frames m.recent f.recent)
+  contents = rw (in-use m.depth f.few) (recent-contents m.depth m.frames m.recent f.recent)
 
   abbrev through : List Register → Access → ℕ → ℕ → ℕ
   through rs a s w = live_through m.layout.lengths m.layout.rights rs (in_use m.depth) (live m) a s w

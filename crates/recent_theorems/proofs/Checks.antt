@@ -32,7 +32,7 @@ use Rattle.memory.specs.Reader.{read_of, read_word}
 use Rattle.instructions.specs.Instruction.{is_load, is_store}
 use Rattle.instructions.specs.Made.{made_at}
 use Rattle.recent_theorems.specs.Statements.{with_recent, bare, PlainCheck, SoundCheck, SameCheck, InOrder, Consulted, ReadsChecked, InstructionNotes}
-use Rattle.executions.proofs.RecentKept.{in_use, all-recent}
+use Rattle.executions.proofs.RecentKept.{in-use, all-recent}
 use Rattle.executions.proofs.Through.{through-none}
 
 module _ (lengths rights : List ℕ) (depth : ℕ) (fs : List Frame) (rs : List Register) (t : contents_test depth fs rs ≡ true) (a : Access) where
@@ -55,7 +55,7 @@ module _ (m : Machine) (few : m.depth ≤ 8) where
   -- registers that are sound for a machine's frames
   module _ (rs : List Register) (t : recent_test m.depth m.frames rs ≡ true) where
     contents : contents_test (in_use m.depth) m.frames rs ≡ true
-    contents = rw (in_use m.depth few) (recent-contents m.depth m.frames rs t)
+    contents = rw (in-use m.depth few) (recent-contents m.depth m.frames rs t)
 
     pub bare-check : (a : Access) (p : Pointer) → check (with_recent m rs) a p ≡ check (bare m) a p
     unfolding check reference_of

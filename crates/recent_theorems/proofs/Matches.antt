@@ -25,7 +25,7 @@ use Rattle.references.specs.declared.flag.Access.{Access}
 use Rattle.references.specs.Flag.{is_read}
 use Rattle.references.specs.Live.{live_match}
 use Rattle.recent_theorems.specs.Statements.{allows, MatchSource}
-use Rattle.executions.proofs.RecentKept.{in_use}
+use Rattle.executions.proofs.RecentKept.{in-use}
 
 -- each register is sound, and so is one past the last
 contents-at : (depth : ℕ) (fs : List Frame) (rs : List Register) → contents_test depth fs rs ≡ true → (i : ℕ) → RegisterSound depth fs (get_or rs i no_register)
@@ -61,7 +61,7 @@ match-source m s a segment word i e =
     let f = sound-facts m s in
     let r = get_or m.recent i no_register in
     let few = f.frames.most in
-    let u = in_use m.depth few in
+    let u = in-use m.depth few in
     let b = both (eqb r.frame (in_use m.depth)) _ e in
     let h = holds m.depth m.frames r (contents-at m.depth m.frames m.recent (recent-contents m.depth m.frames m.recent f.recent) i) in
     rw u (sourced a segment word m.depth m.frames r h (eqb-true _ _ b.0 ∙ u) b.1)
