@@ -57,7 +57,7 @@ start gates rights = fresh_of (layout_of (gate_image gates rights))
 pub dead-order : DeadOrder
 unfolding image_of chunks_of head_of head_body head_fields chunk_of header_of pair_of word_of words_of pointer_of field segments_of segment_of segment_length segment_body segment_fields
     domains_of domain_of domain_body all_rights padded joined layout_of gates_test gate_test all_from has rights_of
-dead-order = record { alone = refl; bytes_left = refl; cut_short = refl; wrong-kind = refl; wrong-length = refl; bad-field = refl }
+dead-order = record { alone = refl; bytes-left = refl; cut-short = refl; wrong-kind = refl; wrong-length = refl; bad-field = refl }
 
 -- the image is accepted with E alone, and without gates with all rights but E
 pub accepted : (image_of (gate_bytes 1 4) ≡ ok (gate_image 1 4)) × (image_of (gate_bytes 0 11) ≡ ok (gate_image 0 11))

@@ -61,8 +61,8 @@ DeadWritten =
 -- an image with a dead gate, and the same with something else wrong
 pub record DeadOrder : Type 0 where
   pub alone : image_of (gate_bytes 1 11) ≡ refuse 10
-  pub bytes_left : image_of (gate_bytes 1 11 ++ (0 ∷ [])) ≡ refuse dead_gate
-  pub cut_short : image_of (take 69 (gate_bytes 1 11)) ≡ refuse cut_short
+  pub bytes-left : image_of (gate_bytes 1 11 ++ (0 ∷ [])) ≡ refuse dead_gate
+  pub cut-short : image_of (take 69 (gate_bytes 1 11)) ≡ refuse cut_short
   pub wrong-kind : image_of (set (gate_bytes 1 11) 68 5) ≡ refuse wrong_kind
   pub wrong-length : image_of (set (gate_bytes 1 11) 66 1) ≡ refuse wrong_length
   pub bad-field : image_of (gate_bytes 1 16) ≡ refuse bad_field
