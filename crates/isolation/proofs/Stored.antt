@@ -11,7 +11,8 @@ use lib.ListN.{length, set, length-set}
 use lib.Seq.{get_or-set_same, get_or-set_other}
 use Rattle.words.specs.Answer.{if◌then◌else◌}
 use Rattle.state.specs.declared.record.Machine.{Machine}
-use Rattle.state.specs.Bases.{words_in}
+use Rattle.state.specs.Bases.{words_in, bases_of}
+use Rattle.references.specs.Reference.{index_of}
 use Rattle.references.proofs.Passes.{never, both}
 use Rattle.references.proofs.Places.{index-lt, index-apart}
 use Rattle.isolation.specs.Visible.{could_write, existing, place, word_at}
@@ -21,13 +22,13 @@ use Rattle.isolation.specs.Isolation.{Writable}
 pub stored-length : (lengths w : List ℕ) (xs : List Store) → length (stored_all lengths w xs) ≡ length w
 unfolding stored_all
 stored-length lengths w [] = refl
-stored-length lengths w (a ∷ more) = stored-length lengths _ more ∙ length-set w _ a.value
+stored-length lengths w (a ∷ more) = stored-length lengths (set w (index_of (bases_of lengths) a.segment a.word) a.value) more ∙ length-set w _ a.value
 
 -- stores after stores
 pub stored_on : (lengths w : List ℕ) (xs ys : List Store) → stored_all lengths w (xs ++ ys) ≡ stored_all lengths (stored_all lengths w xs) ys
 unfolding stored_all
 stored_on lengths w [] ys = refl
-stored_on lengths w (a ∷ more) ys = stored_on lengths _ more ys
+stored_on lengths w (a ∷ more) ys = stored_on lengths (set w (index_of (bases_of lengths) a.segment a.word) a.value) more ys
 
 pub each_on : (P : Store → Type 0) (xs ys : List Store) → Each P xs → Each P ys → Each P (xs ++ ys)
 unfolding Each
