@@ -7,8 +7,7 @@ ghost use Rattle.entry.specs.Entry.{entry_of};
 use entry::run_to_result;
 
 // Runs at most limit instructions of an image, and puts ending, fault and count into the result's first four bytes. Gives 0, or the number of the refusal.
-#[unsafe(no_mangle)]
-pub extern "C" fn zenkorv_entry(image: &[u8], limit: u16, res: &mut [u8]) -> u8
+pub fn zenkorv_entry(image: &[u8], limit: u16, res: &mut [u8]) -> u8
     ensures value { result ≡ number_of (entry_of image.now limit res.old) }
     ensures res_after { res.new ≡ output_after res.old (entry_of image.now limit res.old) }
 {

@@ -1,4 +1,4 @@
-// The calls of a host in C, on a machine that it keeps as bytes. include/zenkorv.h declares them.
+// The calls of a host, on a machine that it keeps as bytes. The crate host_c exports each to C.
 
 #![tactic(auto)]
 

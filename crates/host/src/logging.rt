@@ -7,8 +7,7 @@ ghost use Rattle.held_log.specs.HeldLog.{logged_on, run_in, total_after};
 use held_log::log_held;
 
 // At most 1,000 instructions; each completed crossing is put into six bytes of the log, and how many are calls and returns into two places.
-#[unsafe(no_mangle)]
-pub extern "C" fn zenkorv_log(
+pub fn zenkorv_log(
     bytes: &mut [u8],
     words: &mut [u32],
     log: &mut [u8],

@@ -22,8 +22,7 @@ fn access(write: u8) -> Access
 }
 
 // The index of the word that the executing domain refers to, or 0x10000 plus the number of the refusal.
-#[unsafe(no_mangle)]
-pub extern "C" fn zenkorv_check(bytes: &[u8], write: u8, tag: u8, segment: u8, word: u16) -> u32
+pub fn zenkorv_check(bytes: &[u8], write: u8, tag: u8, segment: u8, word: u16) -> u32
     ensures { result ≡ code_of (checked_on bytes.now write tag segment word) }
 {
     let number = form_number(bytes);
@@ -43,8 +42,7 @@ pub extern "C" fn zenkorv_check(bytes: &[u8], write: u8, tag: u8, segment: u8, w
 }
 
 // Puts where a segment begins in the memory, and how many words it has. Gives 0, or the number of the refusal.
-#[unsafe(no_mangle)]
-pub extern "C" fn zenkorv_segment(
+pub fn zenkorv_segment(
     bytes: &[u8],
     words: &[u32],
     segment: u8,

@@ -6,8 +6,7 @@ ghost use Rattle.held_runs.specs.Runs.{stepped_on, step_code, step_bytes, step_w
 use held_runs::stepping::step_held;
 
 // One instruction.
-#[unsafe(no_mangle)]
-pub extern "C" fn zenkorv_step(bytes: &mut [u8], words: &mut [u32]) -> u16
+pub fn zenkorv_step(bytes: &mut [u8], words: &mut [u32]) -> u16
     ensures code { result ≡ step_code (stepped_on step_call bytes.old words.old) }
     ensures bytes { bytes.new ≡ step_bytes bytes.old (stepped_on step_call bytes.old words.old) }
     ensures words { words.new ≡ step_words words.old (stepped_on step_call bytes.old words.old) }

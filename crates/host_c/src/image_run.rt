@@ -1,0 +1,14 @@
+// An image that is run in a memory of its own.
+ghost use Rattle.std.specs.Prelude.{◌≡◌};
+ghost use Rattle.words.specs.Answer.{number_of};
+ghost use Rattle.image_writer.specs.Writer.{output_after};
+ghost use Rattle.entry.specs.Entry.{entry_of};
+
+// Runs at most limit instructions of an image, and puts ending, fault and count into the result's first four bytes. Gives 0, or the number of the refusal.
+#[unsafe(no_mangle)]
+pub extern "C" fn zenkorv_entry(image: &[u8], limit: u16, res: &mut [u8]) -> u8
+    ensures value { result ≡ number_of (entry_of image.now limit res.old) }
+    ensures res_after { res.new ≡ output_after res.old (entry_of image.now limit res.old) }
+{
+    host::image_run::zenkorv_entry(image, limit, res)
+}
