@@ -2,13 +2,15 @@
 
 #![tactic(auto)]
 
+use input::read_full;
 use log_report::log_report;
+use std::io;
 
-fn main() {
+fn main(rt: HostRuntime) -> io::Result<()> {
     let mut image = [0u8; 33081];
-    let n = io::read_full(0, &mut image);
+    let n = read_full(&mut rt.stdin(), &mut image)?;
     let r = log_report(&image[..n]);
     let bytes = r.bytes;
     let k = r.length;
-    io::write_all(1, &bytes[..k]);
+    rt.write_all(&bytes[..k])
 }
