@@ -49,14 +49,14 @@ pub fn below(folder: &str, ending: &str) -> Vec<File> {
     found
 }
 
-/// The names in a list of crates, `NAME: DEPENDENCIES` a line.
+/// The names in a list of crates, `NAME: DEPENDENCIES` a line, or `NAME staticlib: DEPENDENCIES`.
 pub fn crate_names(list: &str) -> Vec<String> {
     let lines = list.lines().filter(|line| !line.starts_with('#'));
-    let names = lines.filter_map(|line| line.split_once(':'));
-    names.map(|(name, _)| name.to_string()).collect()
+    let heads = lines.filter_map(|line| line.split_once(':'));
+    let names = heads.filter_map(|(head, _)| head.split_whitespace().next());
+    names.map(str::to_string).collect()
 }
 
-/// The crates of the repository.
 pub fn crates() -> Vec<String> {
     crate_names(&read("crates.txt").text)
 }

@@ -113,14 +113,17 @@ impl Graph {
     }
 
     fn word(&self, definition: &Definition, parameters: &[&str], word: &str) -> String {
+        let names = &self.names[&definition.file];
+        let (word, fields) = names.without_fields(word);
         let place = parameters.iter().position(|parameter| *parameter == word);
-        match (place, self.names[&definition.file].path(word)) {
+        let meaning = match (place, names.path(word)) {
             (Some(place), _) => format!("#{place}"),
             (None, Some(path)) if path == definition.path() => "_".to_string(),
             // a constructor behind its type has the type's path
             (None, Some(path)) if word.contains('.') => format!("{path} {word}"),
             (None, Some(path)) => path,
             (None, None) => word.to_string(),
-        }
+        };
+        format!("{meaning}{fields}")
     }
 }

@@ -51,20 +51,15 @@ fn quoted_length(text: &str) -> usize {
     end.map_or(text.len(), |(at, _)| at + 1)
 }
 
-/// The part by which a name is met in a text: `_>>=_` by `>>=`, `if_then_else_` by `if`.
+/// The part by which a name is met in a text: `◌>>=◌` by `>>=`, `if◌then◌else◌` by `if`.
 fn first_part(name: &str) -> &str {
-    let mut parts = name.split('_').filter(|part| !part.is_empty());
+    let mut parts = name.split('◌').filter(|part| !part.is_empty());
     parts.next().unwrap_or(name)
 }
 
-/// A path from a crate's name on: `Rattle·words·specs.specs.Bit` is `words.specs.Bit`.
+/// A path from a crate's name on: `Rattle.words.specs.Bit` is `words.specs.Bit`.
 fn whole(path: &str) -> String {
-    let Some(path) = path.strip_prefix("Rattle·") else {
-        return path.to_string();
-    };
-    let (library, rest) = path.split_once('.').unwrap_or((path, ""));
-    let name = library.split('·').next().unwrap_or(library);
-    format!("{name}.{rest}")
+    path.strip_prefix("Rattle.").unwrap_or(path).to_string()
 }
 
 /// The path in a `use` line of a definition or a contract; code's own lines have `::`.
@@ -118,12 +113,24 @@ impl Names {
         self.modules.insert(here.to_string(), whole(path));
     }
 
-    /// The path of the item that a word names, if it names one. A field, ` .name`, is none.
+    /// A word without the fields that it projects, and these: `f.count` is `f` and `.count`, where
+    /// no module is called `f`. A path has none, and neither has a constructor behind its type.
+    pub fn without_fields<'a>(&self, word: &'a str) -> (&'a str, &'a str) {
+        let is_of_module = word
+            .rsplit_once('.')
+            .is_some_and(|(before, name)| name.is_empty() || self.modules.contains_key(before));
+        match word.find('.') {
+            Some(at) if word.starts_with(char::is_lowercase) && !is_of_module => word.split_at(at),
+            _ => (word, ""),
+        }
+    }
+
+    /// The path of the item that a word names, if it names one. A field, `.name`, is none.
     pub fn path(&self, word: &str) -> Option<String> {
         let Some((before, name)) = word.rsplit_once('.') else {
             return self.items.get(first_part(word)).cloned();
         };
-        if word.starts_with("Rattle·") {
+        if word.starts_with("Rattle.") {
             return Some(whole(word));
         }
         if let Some(module) = self.modules.get(before) {

@@ -108,7 +108,7 @@ pub fn loose_contracts(graph: &Graph) -> Vec<String> {
     found
 }
 
-/// The name of a statement's proof: that of `RunSteps` is `run-steps`.
+/// The name of a statement's proof: that of `RunSteps` is `run-steps`, or `run_steps`.
 fn proof_name(statement: &str) -> String {
     let mut name = String::new();
     for c in statement.chars() {
@@ -120,13 +120,13 @@ fn proof_name(statement: &str) -> String {
     name
 }
 
-/// The proofs in a file, each with the path of the proposition that its signature names.
+/// The proofs in a file, by their names with `-` between words, each with the path of the proposition that its signature names.
 fn proved(file: &File) -> Vec<(String, String)> {
     let names = Names::of(&file.text);
     let proofs = definitions(file).into_iter();
     let signed = proofs.filter_map(|proof| {
         let (_, proposition) = proof.text.lines().next()?.split_once(" : ")?;
-        Some((proof.name.clone(), names.path(proposition)?))
+        Some((proof.name.replace('_', "-"), names.path(proposition)?))
     });
     signed.collect()
 }

@@ -3,7 +3,7 @@ use repository::files::File;
 
 const SHAPES: &str = "\
 -- Shapes: abbrev pub commented : ℕ
-use Prim.Native.Nat.{ℕ, _+_}
+use Rattle.std.specs.Prelude.{ℕ, ◌+◌}
 
 pub data Shape (A : Type 0) : Type 0 where
   -- a point : Shape A
@@ -15,16 +15,16 @@ pub record Place : Type 0 where
   pub across : ℕ
   pub up : ℕ
 
-abbrev pub if_over_ : ℕ → ℕ → Place
+abbrev pub if◌over◌ : ℕ → ℕ → Place
 if a over b = record { across = a; up = b }
 
-infix 5 if_over_
+infix 5 if◌over◌
 module _ (origin : Place) where
   abbrev moved : Place → Place
   moved p =
       record {
-        across = p .across + origin .across; -- not up
-        up = p .up;
+        across = p.across + origin.across; -- not up
+        up = p.up;
       }
 
   unfoldable pub still : Place
@@ -60,10 +60,16 @@ fn names<'a>(found: impl Iterator<Item = &'a Definition>) -> Vec<&'a str> {
 fn all_forms_are_found() {
     let found = read(SHAPES);
     let expected = [
-        "Shape", "Place", "if_over_", "moved", "still", "plain", "leveled",
+        "Shape",
+        "Place",
+        "if◌over◌",
+        "moved",
+        "still",
+        "plain",
+        "leveled",
     ];
     assert_eq!(names(found.iter()), expected);
-    assert_eq!(found[2].path(), "drawing.specs.Shapes.if_over_");
+    assert_eq!(found[2].path(), "drawing.specs.Shapes.if◌over◌");
     assert_eq!(names(found.iter().filter(|one| one.is_number())), ["plain"]);
 }
 
@@ -77,7 +83,7 @@ fn lines_belong_to_their_definition() {
         "a field is no constructor"
     );
     assert!(!found[2].text.contains("infix"), "a fixity");
-    assert!(found[3].text.contains("up = p .up;"), "a line of a clause");
+    assert!(found[3].text.contains("up = p.up;"), "a line of a clause");
     assert!(!found[3].text.contains("not up"), "a comment");
     let in_block = found
         .iter()

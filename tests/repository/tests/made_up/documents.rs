@@ -72,6 +72,7 @@ const TABLES: &str = "\
 
 #[test]
 fn crates_of_lists() {
-    assert_eq!(crate_names("# NAME: uses\na:\nb: a c\n"), ["a", "b"]);
+    let list = "# NAME: uses\na:\nb: a c\nd staticlib: b\n";
+    assert_eq!(crate_names(list), ["a", "b", "d"]);
     assert_eq!(rows(TABLES), ["a", "b"]);
 }

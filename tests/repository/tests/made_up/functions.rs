@@ -11,11 +11,11 @@ fn hidden(x: u8) -> u8
     x
 }
 
-#[no_mangle]
+#[unsafe(no_mangle)]
 pub extern \"C\" fn entry(x: &[u8; 4], y: u8) -> u8
-    requires { ⌜ y < 9 ⌝ }
-    ensures code { λ r. ⌜ r ≡ record { a = 1; b = { 2 } } ⌝ }
-    ensures { λ r. ⌜ r ≡ two ⌝ }
+    requires { y < 9 }
+    ensures code { result ≡ record { a = 1; b = { 2 } } }
+    ensures value { result ≡ two }
 {
     let requires = { three };
     y
@@ -56,9 +56,9 @@ fn contracts_are_read() {
     let [hidden, entry, ..] = &found[..] else {
         panic!("{} functions", found.len());
     };
-    assert_eq!(entry.requires, [" ⌜ y < 9 ⌝ "]);
+    assert_eq!(entry.requires, [" y < 9 "]);
     assert_eq!(entry.ensures.len(), 2);
-    assert!(entry.ensures[0].ends_with("b = { 2 } } ⌝ "));
+    assert!(entry.ensures[0].ends_with("b = { 2 } } "));
     assert!(!entry.contract().contains("three"), "a body is no contract");
     assert!(hidden.contract().is_empty());
 }

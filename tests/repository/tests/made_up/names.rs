@@ -1,18 +1,18 @@
 use repository::names::{tokens, without_comments, Names};
 
 const USES: &str = "\
-use Prim.Native.Nat.{ℕ, _+_}
-ghost use Rattle·words·specs.specs.Answer.{Answer, _>>=_, if_then_else_, ok as fine};
-use Rattle·words.specs.declared.mode.Mode.the-variants as variant
-use Rattle·words.specs.Bit
+use Rattle.std.specs.Prelude.{ℕ, ◌+◌}
+ghost use Rattle.words.specs.Answer.{Answer, number_of, ◌>>=◌, if◌then◌else◌, ok as fine};
+use Rattle.words.specs.declared.mode.Mode.TheVariants as variant
+use Rattle.words.specs.Bit
 use crate::words::Unknown;
 ";
 
 #[test]
 fn words_and_signs() {
-    let found = tokens("f (g .x) \"a (b\" {λ i. c}");
-    assert_eq!(found[..6], ["f", "(", "g", ".x", ")", "\"a (b\""]);
-    assert_eq!(found[6..], ["{", "λ", "i.", "c", "}"]);
+    let found = tokens("f (g x).y \"a (b\" {λ i. c.z}");
+    assert_eq!(found[..7], ["f", "(", "g", "x", ")", ".y", "\"a (b\""]);
+    assert_eq!(found[7..], ["{", "λ", "i.", "c.z", "}"]);
 }
 
 #[test]
@@ -25,24 +25,47 @@ fn comments() {
 fn names_stand_for_paths() {
     let names = Names::of(USES);
     for (word, path) in [
-        ("+", "Prim.Native.Nat._+_"),
+        ("+", "std.specs.Prelude.◌+◌"),
         ("Answer", "words.specs.Answer.Answer"),
-        (">>=", "words.specs.Answer._>>=_"),
-        ("_>>=_", "words.specs.Answer._>>=_"),
-        ("if", "words.specs.Answer.if_then_else_"),
+        ("number_of", "words.specs.Answer.number_of"),
+        (">>=", "words.specs.Answer.◌>>=◌"),
+        ("◌>>=◌", "words.specs.Answer.◌>>=◌"),
+        ("if", "words.specs.Answer.if◌then◌else◌"),
         ("fine", "words.specs.Answer.ok"),
         // a constructor behind its type
         ("Answer.ok", "words.specs.Answer.Answer"),
         (
             "variant.Word",
-            "words.specs.declared.mode.Mode.the-variants.Word",
+            "words.specs.declared.mode.Mode.TheVariants.Word",
         ),
         ("Bit.bit", "words.specs.Bit.bit"),
-        ("Rattle·words.specs.Bit.bit", "words.specs.Bit.bit"),
+        ("Rattle.words.specs.Bit.bit", "words.specs.Bit.bit"),
     ] {
         assert_eq!(names.path(word).as_deref(), Some(path), "{word}");
     }
-    for word in [".Answer", "\"Answer\"", "ok", "Unknown", "then"] {
+    for word in [".Answer", "\"Answer\"", "ok", "Unknown", "then", "number"] {
         assert_eq!(names.path(word), None, "{word}");
+    }
+}
+
+#[test]
+fn fields_are_told_from_paths() {
+    let names = Names::of(USES);
+    for (word, owner, fields) in [
+        ("m.layout.gates", "m", ".layout.gates"),
+        ("number_of.x", "number_of", ".x"),
+    ] {
+        assert_eq!(names.without_fields(word), (owner, fields));
+    }
+    for word in [
+        "m",
+        ".layout",
+        "i.",
+        "variant.Word",
+        "Answer.ok",
+        "Bit.bit",
+        "Rattle.words.specs.Bit.bit",
+    ] {
+        assert_eq!(names.without_fields(word), (word, ""));
     }
 }
