@@ -2,7 +2,7 @@
 ghost use Rattle.std.specs.Prelude.{◌≡◌, length};
 ghost use Rattle.words.specs.Answer.{number_of};
 ghost use Rattle.held_runs.specs.Opened.{code_of, given};
-ghost use Rattle.host.specs.Looks.{access_of, checked_on, segment_on};
+ghost use Rattle.host.specs.Looks.{checked_on, segment_on};
 
 // The index of the word that the executing domain refers to, or 0x10000 plus the number of the refusal.
 #[unsafe(no_mangle)]

@@ -25,7 +25,7 @@ impl Program {
             return Ok(Program { path, due });
         }
         Err(format!(
-            "target/bin/{name} is missing: run `rt check {name}` first"
+            "target/bin/{name} is missing: run tools/programs first"
         ))
     }
 
