@@ -1,5 +1,4 @@
 -- `addressing::through` meets its contract.
-use borrow.Author.Rules.{rules}
 use Rattle.addressing.specs.Effective.{through_of}
 use Rattle.addressing.proofs.through.Goals as goal
 

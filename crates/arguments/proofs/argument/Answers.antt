@@ -1,5 +1,4 @@
 -- `arguments::argument` meets its contract.
-use borrow.Author.Rules.{rules}
 use Rattle.arguments.specs.ArgumentList.{list_pointer, argument_of}
 use Rattle.arguments.proofs.argument.Goals as goal
 

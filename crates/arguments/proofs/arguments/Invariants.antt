@@ -1,15 +1,11 @@
 -- `arguments::arguments` meets its contract.
-use Prim.Native.Nat.{◌+◌, ◌-◌, ◌≤◌, ◌<◌}
-use native.Mathlib.Omega.{arith}
-use mathlib.Core.Path.{◌≡◌, refl, sym, ap, ◌∙◌}
-use borrow.Author.Rules.{rules}
+use Prim.Native.Nat.{◌-◌, ◌≤◌}
+use mathlib.Core.Path.{◌≡◌}
 use lib.ListN.{replicate}
 use Rattle.state.specs.Record.{no_capability}
-use Rattle.capabilities.specs.Search.{capability_answer}
 use Rattle.lent_registers.specs.Columns.{registers_of}
-use Rattle.memory.specs.Reader.{Reader, read_of}
+use Rattle.memory.specs.Reader.{read_of}
 use Rattle.arguments.specs.ArgumentList.{arguments_from}
-use Rattle.arguments.proofs.Rest.{all_rest, refused-rest, taken-rest, no-rest}
 use Rattle.arguments.proofs.arguments.Given as goal
 
 abbrev pub invariant-loop-i : goal.invariant-loop-i

@@ -1,5 +1,4 @@
 -- `arguments::capability` meets its contract.
-use borrow.Author.Rules.{rules}
 use Rattle.arguments.specs.ArgumentList.{capability_of}
 use Rattle.arguments.proofs.capability.Goals as goal
 

@@ -1,5 +1,4 @@
 -- `arguments::filled` meets its contract.
-use borrow.Author.Rules.{rules}
 use Rattle.arguments.proofs.filled.Goals as goal
 
 pub returns : goal.returns

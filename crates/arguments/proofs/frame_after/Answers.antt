@@ -1,5 +1,4 @@
 -- `arguments::frame_after` meets its contract.
-use borrow.Author.Rules.{rules}
 use mathlib.Core.Path.{◌∙◌}
 use Rattle.addressing.specs.Effective.{displaced_by}
 use Rattle.arguments.specs.ArgumentList.{list_pointer, frame_after}

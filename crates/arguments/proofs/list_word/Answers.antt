@@ -1,5 +1,4 @@
 -- `arguments::list_word` meets its contract.
-use borrow.Author.Rules.{rules}
 use Rattle.arguments.specs.ArgumentList.{list_word}
 use Rattle.addressing.specs.Effective.{displaced_by}
 use Rattle.arguments.proofs.list_word.Goals as goal

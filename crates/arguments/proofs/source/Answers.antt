@@ -1,5 +1,4 @@
 -- `arguments::source` meets its contract.
-use borrow.Author.Rules.{rules}
 use Rattle.arguments.specs.ArgumentList.{source_of}
 use Rattle.arguments.proofs.source.Goals as goal
 

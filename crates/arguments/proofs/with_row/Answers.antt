@@ -1,5 +1,4 @@
 -- `arguments::with_row` meets its contract.
-use borrow.Author.Rules.{rules}
 use mathlib.Core.Path.{refl}
 use Rattle.words.proofs.Last.{ninth}
 use Rattle.arguments.proofs.with_row.Goals as goal

@@ -1,12 +1,7 @@
 -- `capabilities::search` meets its contract.
 use Prim.Native.Nat.{◌≤◌, ◌-◌}
-use mathlib.Core.Path.{◌≡◌, sym, refl, ◌∙◌}
-use mathlib.Core.Bool.{Bool}
-use Rattle.state.specs.declared.record.Capability.{Capability}
-use borrow.Author.Rules.{rules}
-use lib.ListN.{length}
 use Rattle.capabilities.specs.Search.{covers_of}
-use Rattle.capabilities.proofs.First.{Passed, hit, miss, none-counted, none-there}
+use Rattle.capabilities.proofs.First.{Passed}
 use Rattle.capabilities.proofs.search.Given as goal
 
 abbrev pub invariant-loop-i : goal.invariant-loop-i

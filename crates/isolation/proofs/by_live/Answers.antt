@@ -1,7 +1,6 @@
 -- `isolation::by_live` meets its contract.
 use Prim.Native.Nat.{ℕ}
 use mathlib.Core.Path.{sym, ap, ◌∙◌}
-use borrow.Author.Rules.{rules}
 use lib.Dec.{eqb}
 use Rattle.references.specs.Live.{source_answer}
 use Rattle.isolation.proofs.Passed.{live-refused, live-source}

@@ -1,7 +1,6 @@
 -- `isolation::by_static` meets its contract.
 use Prim.Native.Nat.{ℕ}
 use mathlib.Core.Path.{ap}
-use borrow.Author.Rules.{rules}
 use lib.Dec.{eqb}
 use Rattle.isolation.proofs.by_static.Goals as goal
 

@@ -1,6 +1,5 @@
 -- `isolation::could_write` meets its contract.
 use mathlib.Core.Path.{sym, ◌∙◌}
-use borrow.Author.Rules.{rules}
 use Rattle.isolation.specs.Visible.{could_write}
 use Rattle.isolation.proofs.Or.{or_left, or-skip}
 use Rattle.isolation.proofs.could_write.Goals as goal

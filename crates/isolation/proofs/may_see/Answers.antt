@@ -1,6 +1,5 @@
 -- `isolation::may_see` meets its contract.
 use mathlib.Core.Path.{sym, ◌∙◌}
-use borrow.Author.Rules.{rules}
 use Rattle.isolation.specs.Visible.{may_see}
 use Rattle.isolation.proofs.Or.{or_left, or-skip}
 use Rattle.isolation.proofs.may_see.Goals as goal

@@ -1,20 +1,14 @@
 -- `local_runs::run_local` meets its contract.
-use Prim.Native.Nat.{ℕ, ◌-◌, ◌≤◌}
+use Prim.Native.Nat.{◌-◌}
 use native.Mathlib.Omega.{arith}
 use mathlib.Core.Path.{sym, ap, ◌∙◌}
-use mathlib.Core.Logic.{⊎_elim}
-use mathlib.Core.List.{List, [], ◌∷◌}
-use borrow.Author.Rules.{rules}
-use types.Run.{OneOf}
+use mathlib.Core.List.{List}
 use lib.ListN.{length}
 use Rattle.words.specs.Answer.{ok}
 use Rattle.words.specs.declared.pointer.Pointer.{Pointer}
-use Rattle.state.specs.declared.record.Registers.{Registers}
-use Rattle.instructions.specs.declared.cycle.Event.TheVariants as event
 use Rattle.instructions.specs.Cycle.{moved, event_answer}
-use Rattle.lent_registers.specs.Columns.{registers_of}
 use Rattle.local_runs.specs.LocalRun.{Paused}
-use Rattle.local_runs.proofs.LocalRuns.{Local, starts, spent, goes, pauses, stops, cycle-length}
+use Rattle.local_runs.proofs.LocalRuns.{starts, spent, goes, pauses, stops, cycle-length}
 use Rattle.local_runs.proofs.run_local.Goals as goal
 
 pub loop-n-init : goal.loop-n-init

@@ -1,8 +1,6 @@
 -- `memory::fetch` meets its contract.
-use borrow.Author.Rules.{rules}
-use Prim.Native.Nat.{◌<◌}
 use native.Mathlib.Omega.{arith}
-use mathlib.Core.Path.{◌≡◌, sym, ap}
+use mathlib.Core.Path.{sym, ap}
 use Rattle.memory.specs.Reader.{fetch_of, word_answer}
 use Rattle.memory.proofs.Answers.{refuse-ok}
 use Rattle.memory.proofs.Accesses.{fetch-absent}

@@ -1,5 +1,4 @@
 -- `memory::length_of` meets its contract.
-use borrow.Author.Rules.{rules}
 use borrow.Author.Tests.{lt-ltb, le-ltb}
 use Rattle.memory.proofs.length_of.Goals as goal
 

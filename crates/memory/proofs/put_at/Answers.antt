@@ -1,5 +1,4 @@
 -- `memory::put_at` meets its contract.
-use borrow.Author.Rules.{rules}
 use mathlib.Core.Path.{sym}
 use lib.Seq.{set_out}
 use Rattle.memory.proofs.put_at.Goals as goal

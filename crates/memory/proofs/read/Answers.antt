@@ -1,5 +1,4 @@
 -- `memory::read` meets its contract.
-use borrow.Author.Rules.{rules}
 use Rattle.memory.specs.Reader.{read_of}
 use Rattle.memory.proofs.read.Goals as goal
 

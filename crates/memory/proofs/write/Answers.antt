@@ -1,6 +1,5 @@
 -- `memory::write` meets its contract.
-use borrow.Author.Rules.{rules}
-use mathlib.Core.Path.{◌≡◌, refl, sym, ap, ◌∙◌}
+use mathlib.Core.Path.{sym, ap, ◌∙◌}
 use Rattle.references.specs.Reference.{index_answer}
 use Rattle.memory.specs.Reader.{written_of}
 use Rattle.memory.proofs.Accesses.{reference-refused, reference-passed}

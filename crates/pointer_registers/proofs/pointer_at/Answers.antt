@@ -1,9 +1,7 @@
 -- `pointer_registers::pointer_at` meets its contract.
 use Rattle.std.proofs.Common.{◌≡◌, arith}
-use borrow.Author.Rules.{rules}
 use mathlib.Core.Path.{refl, sym}
 use lib.ListN.{get_or-eq_default}
-use Rattle.words.proofs.Last.{eighth}
 use Rattle.state.specs.Record.{no_pointer}
 use Rattle.pointer_registers.proofs.pointer_at.Goals as goal
 

@@ -1,5 +1,4 @@
 -- `pointer_registers::stack_of` meets its contract.
-use borrow.Author.Rules.{rules}
 use borrow.Author.Tests.{lt-ltb, le-ltb}
 use Rattle.pointer_registers.proofs.stack_of.Goals as goal
 

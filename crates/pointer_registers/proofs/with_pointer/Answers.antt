@@ -1,9 +1,7 @@
 -- `pointer_registers::with_pointer` meets its contract.
 use Rattle.std.proofs.Common.{◌≡◌, arith}
-use borrow.Author.Rules.{rules}
 use mathlib.Core.Path.{refl, sym}
 use lib.Seq.{set_out}
-use Rattle.words.proofs.Last.{eighth}
 use Rattle.pointer_registers.proofs.with_pointer.Goals as goal
 
 pub returns-then-k-ge8 : goal.returns-then-k-ge8

@@ -1,5 +1,4 @@
 -- `processor::run` meets its contract.
-use borrow.Author.Rules.{rules}
 use Rattle.processor.specs.Calls.{run_call}
 use Rattle.processor.proofs.run.Goals as goal
 

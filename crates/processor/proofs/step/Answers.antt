@@ -1,6 +1,5 @@
 -- `processor::step` meets its contract.
-use mathlib.Core.Path.{◌≡◌, sym, ap, ◌∙◌}
-use borrow.Author.Rules.{rules}
+use mathlib.Core.Path.{ap, ◌∙◌}
 use Rattle.processor.specs.Calls.{run_call}
 use Rattle.processor.specs.Steps.{as_step}
 use Rattle.processor.proofs.Steps.{call-one}

@@ -1,5 +1,4 @@
 -- `processor::stretch` meets its contract.
-use borrow.Author.Rules.{rules}
 use Rattle.processor.specs.Calls.{stretch_call}
 use Rattle.processor.proofs.stretch.Goals as goal
 

@@ -1,6 +1,5 @@
 -- `runs::call` meets its contract.
-use mathlib.Core.Path.{◌≡◌, refl, sym, ◌∙◌}
-use borrow.Author.Rules.{rules}
+use mathlib.Core.Path.{refl, sym, ◌∙◌}
 use borrow.Author.Tests.{eq-eqb, ne_eqb}
 use Rattle.runs.specs.Run.{called_of}
 use Rattle.runs.proofs.Judging.{judged-depth}

@@ -1,7 +1,6 @@
 -- `runs::judge` meets its contract.
-use mathlib.Core.Path.{◌≡◌, sym, ◌∙◌}
-use borrow.Author.Rules.{rules}
-use borrow.Author.Tests.{not-true, not-false, lt-leb, le-leb}
+use mathlib.Core.Path.{sym, ◌∙◌}
+use borrow.Author.Tests.{lt-leb, le-leb}
 use Rattle.runs.specs.Run.{judged}
 use Rattle.runs.proofs.judge.Goals as goal
 

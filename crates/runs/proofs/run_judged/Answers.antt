@@ -1,6 +1,5 @@
 -- `runs::run_judged` meets its contract.
 use mathlib.Core.Path.{refl}
-use borrow.Author.Rules.{rules}
 use borrow.Author.Tests.{lt-leb, le-leb}
 use Rattle.runs.specs.Run.{judged_run}
 use Rattle.runs.proofs.run_judged.Goals as goal

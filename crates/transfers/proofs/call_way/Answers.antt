@@ -1,10 +1,8 @@
 -- `transfers::call_way` meets its contract.
-use borrow.Author.Rules.{rules}
-use Prim.Native.Nat.{ℕ}
 use mathlib.Core.Path.{◌≡◌, sym, ◌∙◌}
-use mathlib.Core.Bool.{Bool, false}
+use mathlib.Core.Bool.{false}
 use borrow.Author.Tests.{lt-ltb, le-ltb}
-use Rattle.words.specs.Answer.{Answer, ok, ◌>>◌, require}
+use Rattle.words.specs.Answer.{ok, ◌>>◌, require}
 use Rattle.transfers.specs.Transfer.{call_way}
 use Rattle.transfers.proofs.Transfers.{way-tagged, way-inside, way-absent, way-barred, way-gate}
 use lib.Dec.{ltb}

@@ -1,5 +1,4 @@
 -- `transfers::gate_count_of` meets its contract.
-use borrow.Author.Rules.{rules}
 use borrow.Author.Tests.{lt-ltb, le-ltb}
 use Rattle.transfers.proofs.gate_count_of.Goals as goal
 

@@ -1,5 +1,4 @@
 -- `transfers::jump_check` meets its contract.
-use borrow.Author.Rules.{rules}
 use Rattle.transfers.specs.Transfer.{jump_check}
 use Rattle.transfers.proofs.jump_check.Goals as goal
 

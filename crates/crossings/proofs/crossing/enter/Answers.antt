@@ -1,6 +1,5 @@
 -- `crossings::crossing::enter` meets its contract.
 use mathlib.Core.Path.{◌≡◌, ◌∙◌}
-use borrow.Author.Rules.{rules}
 use lib.ListN.{get_or}
 use Rattle.words.specs.Answer.{Answer}
 use Rattle.state.specs.declared.record.Frame.{Frame}

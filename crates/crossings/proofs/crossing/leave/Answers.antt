@@ -1,6 +1,5 @@
 -- `crossings::crossing::leave` meets its contract.
 use mathlib.Core.Path.{◌∙◌}
-use borrow.Author.Rules.{rules}
 use borrow.Author.Tests.{eq-eqb, ne_eqb}
 use Rattle.crossings.specs.Parts.{crossed_by}
 use Rattle.crossings.proofs.crossing.leave.Goals as goal

@@ -1,4 +1,3 @@
-use borrow.Author.Rules.{rules}
 use Rattle.crossings.proofs.crossing.with_tag.Goals as goal
 
 pub returns : goal.returns

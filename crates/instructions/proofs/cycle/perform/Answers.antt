@@ -1,5 +1,4 @@
 -- `instructions::cycle::perform` meets its contract.
-use borrow.Author.Rules.{rules}
 use mathlib.Core.Path.{◌≡◌, refl, sym, ap, ◌∙◌, subst}
 use Rattle.words.specs.PointerWord.{pointer_answer}
 use Rattle.words.specs.declared.pointer.Pointer.{Pointer}

@@ -1,5 +1,4 @@
 -- `instructions::cycle::run_cycle` meets its contract.
-use borrow.Author.Rules.{rules}
 use mathlib.Core.Path.{refl, sym, ap, ◌∙◌, subst}
 use Rattle.instructions.specs.Instruction.{plan_of}
 use Rattle.instructions.specs.Cycle.{Stays, cycle_answer, cycle_of, cycle_words, cycle_recent, recent_by}

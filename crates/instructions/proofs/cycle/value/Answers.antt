@@ -1,5 +1,4 @@
 -- `instructions::cycle::value` meets its contract.
-use borrow.Author.Rules.{rules}
 use borrow.Author.Tests.{eq-eqb, ne_eqb}
 use Rattle.instructions.specs.Instruction.{value_of}
 use Rattle.instructions.proofs.cycle.value.Goals as goal

@@ -1,5 +1,4 @@
 -- `instructions::effects::operate` meets its contract.
-use borrow.Author.Rules.{rules}
 use borrow.Author.Tests.{eq-eqb, ne_eqb}
 use Rattle.instructions.proofs.effects.operate.Goals as goal
 

@@ -1,5 +1,4 @@
 -- `instructions::effects::save` meets its contract.
-use borrow.Author.Rules.{rules}
 use mathlib.Core.Path.{refl, sym, ap, ◌∙◌, subst}
 use Rattle.instructions.specs.Cycle.{Stays, cycle_answer}
 use borrow.Author.Tests.{eq-eqb, ne_eqb}

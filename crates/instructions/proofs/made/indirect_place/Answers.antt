@@ -1,13 +1,12 @@
 -- `instructions::made::indirect_place` meets its contract.
 use borrow.Author.Tests.{not-true, not-false}
-use mathlib.Core.Path.{◌≡◌, sym, refl, ap, ◌∙◌}
+use mathlib.Core.Path.{◌≡◌}
 use mir.Syntax.{w32}
 use mir.Val.{SFits}
 use mir.ValLaws.{to_z-of_z}
 use Rattle.words.specs.Offset.{displaced_of, word_number_answer}
 use Rattle.addressing.specs.Effective.{displaced_by}
 use Rattle.instructions.specs.Made.{indirect_place}
-use borrow.Author.Rules.{rules}
 use Rattle.instructions.proofs.made.indirect_place.Goals as goal
 
 -- src/made.rt:34:9

@@ -1,5 +1,4 @@
 -- `instructions::made::note` meets its contract.
-use borrow.Author.Rules.{rules}
 use mathlib.Core.Path.{sym}
 use Rattle.instructions.proofs.Notes.{untagged-noted}
 use Rattle.instructions.proofs.made.note.Goals as goal

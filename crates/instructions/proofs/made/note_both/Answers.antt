@@ -1,5 +1,4 @@
 -- `instructions::made::note_both` meets its contract.
-use borrow.Author.Rules.{rules}
 use Rattle.instructions.proofs.Notes.{first-noted, last-noted}
 use Rattle.instructions.proofs.made.note_both.Goals as goal
 

@@ -1,5 +1,4 @@
 -- `instructions::made::note_indirect` meets its contract.
-use borrow.Author.Rules.{rules}
 use mathlib.Core.Path.{sym}
 use Rattle.instructions.proofs.Notes.{untagged-renewed}
 use Rattle.instructions.proofs.made.note_indirect.Goals as goal

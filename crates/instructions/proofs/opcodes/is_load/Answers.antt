@@ -1,5 +1,4 @@
 -- `instructions::opcodes::is_load` meets its contract.
-use borrow.Author.Rules.{rules}
 use borrow.Author.Tests.{eq-eqb, ne_eqb}
 use Rattle.instructions.specs.Instruction.{is_load}
 use Rattle.instructions.proofs.opcodes.is_load.Goals as goal

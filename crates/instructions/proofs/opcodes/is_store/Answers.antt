@@ -1,5 +1,4 @@
 -- `instructions::opcodes::is_store` meets its contract.
-use borrow.Author.Rules.{rules}
 use borrow.Author.Tests.{eq-eqb, ne_eqb}
 use Rattle.instructions.specs.Instruction.{is_store}
 use Rattle.instructions.proofs.opcodes.is_store.Goals as goal

@@ -1,10 +1,6 @@
 use native.Mathlib.Omega.{arith}
 use lib.ListN.{length-set}
 use Rattle.lent_registers.specs.Private.{put_at}
-use borrow.Author.Rules.{rules}
-use Rattle.lent_registers.proofs.cells.put.Reads as reads
-use Rattle.lent_registers.proofs.cells.put.Lts as lts
-use Rattle.lent_registers.proofs.cells.flag.Reads as flag-reads
 use Rattle.lent_registers.proofs.cells.put.Goals as goal
 
 -- src/cells.rt:60:5

@@ -1,8 +1,4 @@
-use borrow.Author.Rules.{rules}
 use Rattle.lent_registers.specs.Columns.{register_at}
-use Rattle.lent_registers.proofs.cells.register_at.Reads as reads
-use Rattle.lent_registers.proofs.cells.register_at.Lts as lts
-use Rattle.lent_registers.proofs.cells.joined.Reads as joined-reads
 use Rattle.lent_registers.proofs.cells.register_at.Goals as goal
 
 -- src/cells.rt:23:1

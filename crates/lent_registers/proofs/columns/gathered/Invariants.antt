@@ -1,15 +1,5 @@
-use Rattle.state.specs.declared.record.Register.{Register}
-use mathlib.Core.List.{List}
-use Prim.Native.Nat.{ℕ}
-use mathlib.Core.Path.{ap}
-use borrow.Author.Rules.{rules}
-use Prim.Native.Nat.{◌≤◌, ◌-◌}
-use native.Mathlib.Omega.{arith}
-use mathlib.Core.Path.{◌≡◌, sym, refl, ◌∙◌}
-use Rattle.lent_registers.proofs.Whole.{Gathering, gathers-on, gathered-all}
-use Rattle.lent_registers.proofs.columns.gathered.Reads as reads
-use Rattle.lent_registers.proofs.columns.gathered.Lts as lts
-use Rattle.lent_registers.proofs.cells.register_at.Reads as register-at-reads
+use Prim.Native.Nat.{◌-◌}
+use Rattle.lent_registers.proofs.Whole.{Gathering}
 use Rattle.lent_registers.proofs.columns.gathered.Given as goal
 
 abbrev pub invariant-loop-i : goal.invariant-loop-i

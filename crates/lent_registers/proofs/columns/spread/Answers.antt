@@ -1,11 +1,7 @@
-use borrow.Author.Rules.{rules}
-use Prim.Native.Nat.{◌≤◌, ◌-◌}
+use Prim.Native.Nat.{◌-◌}
 use native.Mathlib.Omega.{arith}
-use mathlib.Core.Path.{◌≡◌, sym, refl, ◌∙◌}
-use Rattle.lent_registers.proofs.Whole.{Spreading, spreads-on, spread-all}
-use Rattle.lent_registers.proofs.columns.spread.Reads as reads
-use Rattle.lent_registers.proofs.columns.spread.Lts as lts
-use Rattle.lent_registers.proofs.cells.put.Reads as put_reads
+use mathlib.Core.Path.{refl}
+use Rattle.lent_registers.proofs.Whole.{spreads-on, spread-all}
 use Rattle.lent_registers.proofs.columns.spread.Goals as goal
 
 -- src/columns.rt:77:5

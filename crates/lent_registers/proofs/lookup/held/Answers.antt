@@ -1,12 +1,10 @@
 -- `lent_registers::lookup::held` meets its contract.
 use Prim.Native.Nat.{◌-◌}
 use native.Mathlib.Omega.{arith}
-use mathlib.Core.Bool.{not}
 use mathlib.Core.Path.{sym, ◌∙◌}
 use borrow.Author.Rules.{rules}
 use borrow.Author.Tests.{lt-ltb}
-use Rattle.capabilities.specs.Search.{covers_of}
-use Rattle.lent_registers.proofs.Loops.{Looking, looks-none, looks-hit, looks_on, looks-all}
+use Rattle.lent_registers.proofs.Loops.{looks-none, looks-hit, looks_on, looks-all}
 use Rattle.lent_registers.proofs.lookup.held.Goals as goal
 
 pub loop-i-init : goal.loop-i-init

@@ -1,14 +1,9 @@
 use mathlib.Core.Bool.{not}
 use Rattle.state.specs.declared.record.Register.{Register}
 use Rattle.capabilities.specs.Search.{covers_of}
-use borrow.Author.Tests.{eq-eqb, ne_eqb, lt-ltb, le-ltb, le-leb, lt-leb}
+use borrow.Author.Tests.{eq-eqb, ne_eqb}
 use Rattle.lent_registers.specs.Columns.{register_at}
-use mathlib.Core.Path.{◌≡◌, sym, refl, ap, ◌∙◌}
-use borrow.Author.Rules.{rules}
-use Rattle.lent_registers.proofs.lookup.is_held.Reads as reads
-use Rattle.lent_registers.proofs.lookup.is_held.Lts as lts
-use Rattle.capabilities.proofs.covers.Reads as covers-reads
-use Rattle.lent_registers.proofs.cells.register_at.Reads as register-at-reads
+use mathlib.Core.Path.{sym, ap, ◌∙◌}
 use Rattle.lent_registers.proofs.lookup.is_held.Goals as goal
 
 -- src/lookup.rt:18:9

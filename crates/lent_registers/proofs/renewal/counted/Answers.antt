@@ -1,10 +1,6 @@
 use native.Mathlib.Omega.{arith}
-use mathlib.Core.Path.{◌∙◌, sym, ap, refl}
-use borrow.Author.Tests.{eq-eqb, ne_eqb, lt-ltb, le-ltb, le-leb, lt-leb}
-use borrow.Author.Rules.{rules}
-use Rattle.lent_registers.proofs.renewal.counted.Reads as reads
-use Rattle.lent_registers.proofs.renewal.counted.Lts as lts
-use Rattle.lent_registers.proofs.renewal.order.Reads as order-reads
+use mathlib.Core.Path.{sym, refl}
+use borrow.Author.Tests.{lt-ltb, le-ltb}
 use Rattle.lent_registers.proofs.renewal.counted.Goals as goal
 
 -- src/renewal.rt:93:1

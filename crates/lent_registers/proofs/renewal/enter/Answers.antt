@@ -1,13 +1,7 @@
-use borrow.Author.Rules.{rules}
-use borrow.Author.Tests.{eq-eqb, ne_eqb, lt-ltb, le-ltb}
-use Prim.Native.Nat.{◌≤◌, ◌-◌}
-use native.Mathlib.Omega.{arith}
-use mathlib.Core.Path.{◌≡◌, sym, refl, ◌∙◌}
-use Rattle.recent.specs.Registers.{entered_in, with_entry}
-use Rattle.lent_registers.proofs.Loops.{Changing, begins, changed-all, enters_on}
-use Rattle.lent_registers.proofs.renewal.enter.Reads as reads
-use Rattle.lent_registers.proofs.renewal.enter.Lts as lts
-use Rattle.lent_registers.proofs.renewal.enter_one.Reads as enter-one-reads
+use Prim.Native.Nat.{◌-◌}
+use mathlib.Core.Path.{sym, ◌∙◌}
+use Rattle.recent.specs.Registers.{with_entry}
+use Rattle.lent_registers.proofs.Loops.{begins, changed-all, enters_on}
 use Rattle.lent_registers.proofs.renewal.enter.Goals as goal
 
 -- src/renewal.rt:81:5

@@ -1,12 +1,5 @@
-use mathlib.Core.Path.{◌≡◌, sym, refl, ap, ◌∙◌}
+use mathlib.Core.Path.{sym, ◌∙◌}
 use Rattle.lent_registers.proofs.Referred.{listed-is}
-use borrow.Author.Rules.{rules}
-use Rattle.lent_registers.proofs.renewal.enter_list.Reads as reads
-use Rattle.lent_registers.proofs.renewal.enter_list.Lts as lts
-use Rattle.lent_registers.proofs.renewal.enter.Reads as enter-reads
-use Rattle.lent_registers.proofs.renewal.less.Reads as less-reads
-use Rattle.lent_registers.proofs.renewal.row.Reads as row_reads
-use Rattle.recent.proofs.entering.all_yield.Reads as all-yield-reads
 use Rattle.lent_registers.proofs.renewal.enter_list.Goals as goal
 
 -- src/renewal.rt:266:1

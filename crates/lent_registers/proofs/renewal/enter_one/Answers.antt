@@ -1,10 +1,4 @@
-use borrow.Author.Tests.{eq-eqb, ne_eqb, lt-ltb, le-ltb}
-use mathlib.Core.Path.{◌∙◌, sym}
-use borrow.Author.Rules.{rules}
-use Rattle.lent_registers.proofs.renewal.enter_one.Reads as reads
-use Rattle.lent_registers.proofs.renewal.enter_one.Lts as lts
-use Rattle.lent_registers.proofs.cells.put.Reads as put_reads
-use Rattle.lent_registers.proofs.cells.renumber.Reads as renumber-reads
+use borrow.Author.Tests.{eq-eqb, ne_eqb}
 use Rattle.lent_registers.proofs.renewal.enter_one.Goals as goal
 
 -- src/renewal.rt:58:1

@@ -1,8 +1,5 @@
-use borrow.Author.Tests.{eq-eqb, ne_eqb, lt-ltb, le-ltb, le-leb, lt-leb}
+use borrow.Author.Tests.{eq-eqb, ne_eqb, lt-ltb, le-ltb}
 use Rattle.recent.specs.Registers.{risen}
-use borrow.Author.Rules.{rules}
-use Rattle.lent_registers.proofs.renewal.number_risen.Reads as reads
-use Rattle.lent_registers.proofs.renewal.number_risen.Lts as lts
 use Rattle.lent_registers.proofs.renewal.number_risen.Goals as goal
 
 -- src/renewal.rt:22:9

@@ -1,12 +1,8 @@
 use Prim.Native.Nat.{◌+◌}
-use mathlib.Core.Path.{◌∙◌, sym, ap}
-use borrow.Author.Tests.{eq-eqb, ne_eqb, lt-ltb, le-ltb, le-leb, lt-leb}
+use mathlib.Core.Path.{ap}
+use borrow.Author.Tests.{eq-eqb, ne_eqb}
 use Rattle.lent_registers.specs.Columns.{register_at}
 use Rattle.recent.specs.Registers.{order_of}
-use borrow.Author.Rules.{rules}
-use Rattle.lent_registers.proofs.renewal.order.Reads as reads
-use Rattle.lent_registers.proofs.renewal.order.Lts as lts
-use Rattle.lent_registers.proofs.renewal.wide.Reads as wide-reads
 use Rattle.lent_registers.proofs.renewal.order.Goals as goal
 
 -- src/renewal.rt:74:1

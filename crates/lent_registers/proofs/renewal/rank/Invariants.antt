@@ -1,10 +1,5 @@
-use borrow.Author.Rules.{rules}
-use Prim.Native.Nat.{◌≤◌, ◌-◌}
-use Rattle.lent_registers.proofs.Loops.{Ranking, ranks-none, ranks-next, ranks-all}
-use mathlib.Core.Path.{◌≡◌, sym, refl, ◌∙◌}
-use Rattle.lent_registers.proofs.renewal.rank.Reads as reads
-use Rattle.lent_registers.proofs.renewal.rank.Lts as lts
-use Rattle.lent_registers.proofs.renewal.counted.Reads as counted-reads
+use Prim.Native.Nat.{◌-◌}
+use Rattle.lent_registers.proofs.Loops.{Ranking}
 use Rattle.lent_registers.proofs.renewal.rank.Given as goal
 
 abbrev pub invariant-loop-i : goal.invariant-loop-i

@@ -1,12 +1,7 @@
-use borrow.Author.Rules.{rules}
-use Prim.Native.Nat.{◌≤◌, ◌-◌}
+use Prim.Native.Nat.{◌-◌}
 use native.Mathlib.Omega.{arith}
-use mathlib.Core.Path.{◌≡◌, sym, refl, ◌∙◌}
-use Rattle.lent_registers.proofs.Whole.{Ranked, ranked-on, ranked-all}
-use Rattle.lent_registers.proofs.renewal.ranks.Reads as reads
-use Rattle.lent_registers.proofs.renewal.ranks.Lts as lts
-use Rattle.lent_registers.proofs.renewal.order.Reads as order-reads
-use Rattle.lent_registers.proofs.renewal.rank.Reads as rank-reads
+use mathlib.Core.Path.{refl}
+use Rattle.lent_registers.proofs.Whole.{ranked-on, ranked-all}
 use Rattle.lent_registers.proofs.renewal.ranks.Goals as goal
 
 -- src/renewal.rt:129:5

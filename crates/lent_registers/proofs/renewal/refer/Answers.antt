@@ -1,12 +1,6 @@
-use mathlib.Core.Path.{◌≡◌, sym, refl, ap, ◌∙◌}
+use mathlib.Core.Path.{sym, ◌∙◌}
 use Rattle.lent_registers.proofs.Referred.{refer-none, refer-held, refer-searched, place-held, place_none}
 use Rattle.lent_registers.specs.Columns.{register_at}
-use borrow.Author.Rules.{rules}
-use Rattle.lent_registers.proofs.renewal.refer.Reads as reads
-use Rattle.lent_registers.proofs.renewal.refer.Lts as lts
-use Rattle.lent_registers.proofs.lookup.held.Reads as held_reads
-use Rattle.lent_registers.proofs.renewal.search_frame.Reads as search-frame-reads
-use Rattle.lent_registers.proofs.renewal.touch.Reads as Touch-reads
 use Rattle.lent_registers.proofs.renewal.refer.Goals as goal
 
 -- src/renewal.rt:226:9

@@ -1,10 +1,6 @@
 use lib.ListN.{get_or-eq_default}
 use native.Mathlib.Omega.{arith}
-use borrow.Author.Tests.{eq-eqb, ne_eqb, lt-ltb, le-ltb}
-use mathlib.Core.Path.{◌≡◌, sym, refl, ◌∙◌}
-use borrow.Author.Rules.{rules}
-use Rattle.lent_registers.proofs.renewal.row.Reads as reads
-use Rattle.lent_registers.proofs.renewal.row.Lts as lts
+use mathlib.Core.Path.{sym}
 use Rattle.lent_registers.proofs.renewal.row.Goals as goal
 
 -- src/renewal.rt:242:9

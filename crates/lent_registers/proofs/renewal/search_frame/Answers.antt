@@ -1,12 +1,6 @@
-use mathlib.Core.Path.{◌≡◌, sym, refl, ap, ◌∙◌}
+use mathlib.Core.Path.{sym, ap, ◌∙◌}
 use Rattle.lent_registers.proofs.Referred.{search-none, search-found}
 use Rattle.capabilities.specs.Search.{capability_answer}
-use borrow.Author.Rules.{rules}
-use Rattle.lent_registers.proofs.renewal.search_frame.Reads as reads
-use Rattle.lent_registers.proofs.renewal.search_frame.Lts as lts
-use Rattle.lent_registers.proofs.renewal.enter.Reads as enter-reads
-use Rattle.recent.proofs.entering.may_enter.Reads as may-enter-reads
-use Rattle.slice_search.proofs.search.Reads as search-reads
 use Rattle.lent_registers.proofs.renewal.search_frame.Goals as goal
 
 -- src/renewal.rt:184:1

@@ -1,5 +1,4 @@
 -- `recent::entering::is_yielding` meets its contract.
-use borrow.Author.Rules.{rules}
 use borrow.Author.Tests.{eq-eqb, ne_eqb}
 use Rattle.recent.specs.Entering.{yields}
 use Rattle.recent.proofs.entering.is_yielding.Goals as goal

@@ -2,11 +2,11 @@
 use Prim.Native.Nat.{◌-◌}
 use mathlib.Core.Path.{◌≡◌, sym, refl, ◌∙◌}
 use borrow.Author.Rules.{rules}
-use lib.ListN.{length, take}
+use lib.ListN.{length}
 use Rattle.state.specs.Record.{no_capability}
 use Rattle.recent.specs.Entering.{may_enter}
 use Rattle.recent.proofs.Logic.{pass, stop, in_then, in-else, answered-true, answered-false}
-use Rattle.recent.proofs.Walk.{LeftOf, next_of, ended-count, ended-array}
+use Rattle.recent.proofs.Walk.{next_of, ended-count, ended-array}
 use Rattle.recent.proofs.entering.may_enter.Goals as goal
 use Rattle.recent.proofs.entering.may_enter.Goals.{Start}
 

@@ -1,12 +1,8 @@
 -- `recent::entering::may_enter` meets its contract.
 use Prim.Native.Nat.{◌-◌}
-use mathlib.Core.Path.{◌≡◌, sym, refl, ◌∙◌}
-use borrow.Author.Rules.{rules}
-use lib.ListN.{length, take}
-use Rattle.state.specs.Record.{no_capability}
+use lib.ListN.{take}
 use Rattle.recent.specs.Entering.{may_enter}
-use Rattle.recent.proofs.Logic.{pass, stop, in_then, in-else, answered-true, answered-false}
-use Rattle.recent.proofs.Walk.{LeftOf, next_of, ended-count, ended-array}
+use Rattle.recent.proofs.Walk.{LeftOf}
 use Rattle.recent.proofs.entering.may_enter.Given as goal
 
 abbrev pub invariant-loop-i : goal.invariant-loop-i

@@ -1,5 +1,4 @@
 -- `recent::entering::same_capability` meets its contract.
-use borrow.Author.Rules.{rules}
 use borrow.Author.Tests.{eq-eqb, ne_eqb}
 use Rattle.recent.specs.Entering.{same}
 use Rattle.recent.proofs.Logic.{pass, stop, answered-true, answered-false}

@@ -1,5 +1,4 @@
 -- `recent::entering::share` meets its contract.
-use borrow.Author.Rules.{rules}
 use borrow.Author.Tests.{eq-eqb, ne_eqb, lt-ltb, le-ltb}
 use mathlib.Core.Path.{refl}
 use Rattle.recent.specs.Entering.{shares}

@@ -4,7 +4,6 @@ use native.Mathlib.Omega.{arith}
 use mathlib.Core.Path.{◌≡◌, sym, refl, ap, ◌∙◌}
 use mathlib.Core.Bool.{Bool, true, false, ◌&&◌}
 use mathlib.Core.List.{List}
-use borrow.Author.Rules.{rules}
 use borrow.Author.Tests.{ne_eqb}
 use lib.Dec.{leb}
 use lib.ListN.{length, get_or, get_or-eq_default}
@@ -15,7 +14,7 @@ use Rattle.recent.specs.Entering.{may_enter}
 use Rattle.recent.specs.Registers.{register}
 use Rattle.recent.specs.SoundRegisters.{register_test, contents_test, frame_of_register}
 use Rattle.recent.proofs.Logic.{pass, stop, answered-true, answered-false}
-use Rattle.recent.proofs.Walk.{Left, next, ended}
+use Rattle.recent.proofs.Walk.{next, ended}
 use Rattle.recent.proofs.registers.contents_sound.Goals as goal
 use Rattle.recent.proofs.registers.contents_sound.Goals.{Start}
 

@@ -1,5 +1,4 @@
 -- `recent::registers::empty` meets its contract.
-use borrow.Author.Rules.{rules}
 use Rattle.recent.proofs.registers.empty.Goals as goal
 
 pub returns : goal.returns

@@ -1,5 +1,4 @@
 -- `recent::registers::fresh_registers` meets its contract.
-use borrow.Author.Rules.{rules}
 use Rattle.recent.proofs.registers.fresh_registers.Goals as goal
 
 pub returns : goal.returns

@@ -2,15 +2,14 @@
 use Prim.Native.Nat.{◌-◌}
 use mathlib.Core.Path.{◌≡◌, sym, refl, ap, ◌∙◌}
 use mathlib.Core.Bool.{not}
-use borrow.Author.Rules.{rules}
 use borrow.Author.Tests.{eq-eqb, ne_eqb}
-use lib.ListN.{length, drop}
+use lib.ListN.{length}
 use Rattle.state.specs.declared.record.Register.{Register}
 use Rattle.state.specs.Record.{no_capability}
 use Rattle.recent.specs.Registers.{register}
 use Rattle.recent.specs.SoundRegisters.{absent}
 use Rattle.recent.proofs.Logic.{pass, stop}
-use Rattle.recent.proofs.Walk.{Left, next, ended}
+use Rattle.recent.proofs.Walk.{next, ended}
 use Rattle.recent.proofs.registers.is_absent.Goals as goal
 use Rattle.recent.proofs.registers.is_absent.Goals.{Start}
 

@@ -1,7 +1,6 @@
 -- `recent::registers::numbers_sound` meets its contract.
 use Prim.Native.Nat.{◌-◌}
 use mathlib.Core.Path.{◌≡◌, sym, refl, ◌∙◌}
-use borrow.Author.Rules.{rules}
 use borrow.Author.Tests.{le-leb, lt-leb}
 use lib.ListN.{length}
 use Rattle.state.specs.declared.record.Register.{Register}
@@ -9,7 +8,7 @@ use Rattle.state.specs.Record.{no_capability}
 use Rattle.recent.specs.Registers.{register}
 use Rattle.recent.specs.SoundRegisters.{numbers_test}
 use Rattle.recent.proofs.Logic.{pass, stop, answered-true, answered-false}
-use Rattle.recent.proofs.Walk.{Left, next, ended}
+use Rattle.recent.proofs.Walk.{next, ended}
 use Rattle.recent.proofs.registers.numbers_sound.Goals as goal
 use Rattle.recent.proofs.registers.numbers_sound.Goals.{Start}
 

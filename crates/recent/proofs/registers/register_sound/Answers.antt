@@ -1,6 +1,5 @@
 -- `recent::registers::register_sound` meets its contract.
 use mathlib.Core.Path.{ap, ◌∙◌}
-use borrow.Author.Rules.{rules}
 use borrow.Author.Tests.{eq-eqb, ne_eqb, le-leb, lt-leb}
 use Rattle.recent.specs.SoundRegisters.{register_test}
 use Rattle.recent.specs.Entering.{same}

@@ -1,5 +1,4 @@
 -- `recent::registers::registers_sound` meets its contract.
-use borrow.Author.Rules.{rules}
 use Rattle.recent.specs.SoundRegisters.{recent_test}
 use Rattle.recent.proofs.Logic.{pass, stop, answered-true, answered-false}
 use Rattle.recent.proofs.registers.registers_sound.Goals as goal

@@ -1,6 +1,5 @@
 -- `references::flag::allows` meets its contract.
 use native.Mathlib.Nat.{div-one}
-use borrow.Author.Rules.{rules}
 use Rattle.references.specs.Flag.{has}
 use Rattle.references.proofs.flag.allows.Goals as goal
 

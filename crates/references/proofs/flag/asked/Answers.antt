@@ -1,5 +1,4 @@
 -- `references::flag::asked` meets its contract.
-use borrow.Author.Rules.{rules}
 use Rattle.references.proofs.flag.asked.Goals as goal
 
 pub returns-in-Read : goal.returns-in-Read

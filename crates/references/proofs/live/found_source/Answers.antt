@@ -1,16 +1,10 @@
 -- `references::live::found_source` meets its contract.
 use native.Mathlib.Omega.{arith}
 use Rattle.words.specs.Answer.{ok}
-use mathlib.Core.Path.{◌≡◌, sym, refl, ap, ◌∙◌}
+use mathlib.Core.Path.{sym, ap, ◌∙◌}
 use Rattle.lent_registers.specs.Columns.{register_at}
 use Rattle.lent_registers.proofs.Referred.{place-held, place_none}
 use Rattle.references.proofs.Sources.{code-source, code-none, found_none, found-held, found-searched}
-use borrow.Author.Rules.{rules}
-use Rattle.references.proofs.live.found_source.Reads as reads
-use Rattle.references.proofs.live.found_source.Lts as lts
-use Rattle.lent_registers.proofs.lookup.held.Reads as held_reads
-use Rattle.references.proofs.live.source_of.Reads as source-of-reads
-use Rattle.references.proofs.live.wide.Reads as wide-reads
 use Rattle.references.proofs.live.found_source.Goals as goal
 
 -- src/live.rt:81:9

@@ -1,6 +1,5 @@
 -- `references::live::live_check` meets its contract.
 use native.Mathlib.Nat.{mod-eq_of_lt}
-use borrow.Author.Rules.{rules}
 use borrow.Author.Tests.{eq-eqb, ne_eqb}
 use Rattle.references.proofs.Sources.{through-found, code-source, code-none}
 use Rattle.references.proofs.live.live_check.Goals as goal

@@ -1,7 +1,6 @@
 -- `references::live::pass_on` meets its contract.
 use native.Mathlib.Nat.{mod-eq_of_lt}
 use mathlib.Core.Path.{sym, ap, ◌∙◌}
-use borrow.Author.Rules.{rules}
 use Rattle.words.specs.Answer.{ok}
 use Rattle.references.proofs.Sources.{code-source, code-none}
 use Rattle.references.proofs.live.pass_on.Goals as goal

@@ -1,7 +1,6 @@
 -- `references::live::source_of` meets its contract.
 use native.Mathlib.Omega.{arith}
 use mathlib.Core.Path.{sym, ap, ◌∙◌}
-use borrow.Author.Rules.{rules}
 use borrow.Author.Tests.{eq-eqb, ne_eqb}
 use Rattle.capabilities.specs.Search.{capability_answer}
 use Rattle.references.specs.Live.{passed_of, live_match}

@@ -1,6 +1,5 @@
 -- `references::reference::live_reference` meets its contract.
 use mathlib.Core.Path.{sym, ◌∙◌}
-use borrow.Author.Rules.{rules}
 use borrow.Author.Tests.{eq-eqb, ne_eqb}
 use Rattle.references.specs.Reference.{live_reference_of}
 use Rattle.references.proofs.Passes.{through-exists, exists-facts}

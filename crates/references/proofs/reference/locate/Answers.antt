@@ -1,6 +1,5 @@
 -- `references::reference::locate` meets its contract.
 use mathlib.Core.Path.{sym, ◌∙◌}
-use borrow.Author.Rules.{rules}
 use borrow.Author.Tests.{eq-eqb, ne_eqb}
 use Rattle.references.specs.Reference.{locate_of}
 use Rattle.references.proofs.Passes.{static-exists, exists-facts}

@@ -1,5 +1,4 @@
 -- `references::reference::reference` meets its contract.
-use borrow.Author.Rules.{rules}
 use Rattle.references.specs.Reference.{verdict_of, locate_of, live_reference_of, reference_of}
 use Rattle.references.proofs.reference.reference.Goals as goal
 

@@ -1,6 +1,5 @@
 -- `references::statics::static_check` meets its contract.
 use mathlib.Core.Path.{sym, ◌∙◌}
-use borrow.Author.Rules.{rules}
 use borrow.Author.Tests.{lt-ltb, le-ltb}
 use Rattle.references.specs.Static.{static_of, exists, rights_of}
 use Rattle.references.proofs.Rights.{no-rights}

@@ -1,14 +1,13 @@
 -- `runs::renewal::renew_call` meets its contract.
 use Prim.Native.Nat.{ℕ, ◌+◌}
 use mathlib.Core.List.{List}
-use mathlib.Core.Path.{◌≡◌, sym, refl, ap, ◌∙◌}
+use mathlib.Core.Path.{ap, ◌∙◌}
 use Rattle.state.specs.declared.record.Register.{Register}
 use Rattle.recent.specs.Registers.{listed}
 use Rattle.references.specs.Made.{renewed_all}
 use Rattle.lent_registers.specs.Columns.{registers_of}
 use Rattle.arguments.specs.ArgumentList.{list_made}
 use Rattle.crossings.specs.Crossing.{called_recent}
-use borrow.Author.Rules.{rules}
 use Rattle.runs.proofs.renewal.renew_call.Goals as goal
 
 -- src/renewal.rt:62:1

@@ -1,11 +1,7 @@
 -- `runs::renewal::renew_list` meets its contract.
 use Prim.Native.Nat.{◌-◌}
-use native.Mathlib.Omega.{arith}
-use borrow.Author.Rules.{rules}
-use mathlib.Core.Path.{◌≡◌, sym, refl, ap, ◌∙◌}
-use borrow.Author.Tests.{eq-eqb, ne_eqb, not-true}
 use Rattle.lent_registers.specs.Columns.{registers_of}
-use Rattle.runs.proofs.Lists.{Listing, lists-none, lists-next, lists-all, list-untagged}
+use Rattle.runs.proofs.Lists.{Listing}
 use Rattle.runs.proofs.renewal.renew_list.Given as goal
 
 abbrev pub invariant-loop-i : goal.invariant-loop-i

@@ -1,9 +1,7 @@
 -- `runs::renewal::renew_return` meets its contract.
-use mathlib.Core.Path.{◌≡◌, sym, refl, ap, ◌∙◌}
-use borrow.Author.Tests.{eq-eqb, ne_eqb, not-true}
+use mathlib.Core.Path.{ap, ◌∙◌}
 use Rattle.recent.specs.Registers.{cleared}
 use Rattle.crossings.specs.Crossing.{left_recent}
-use borrow.Author.Rules.{rules}
 use Rattle.runs.proofs.renewal.renew_return.Goals as goal
 
 -- src/renewal.rt:71:1

@@ -1,9 +1,8 @@
 -- `runs::renewal::renew_word` meets its contract.
-use mathlib.Core.Path.{◌≡◌, sym, refl, ap, ◌∙◌}
-use borrow.Author.Tests.{eq-eqb, ne_eqb, not-true}
+use mathlib.Core.Path.{sym, ap, ◌∙◌}
+use borrow.Author.Tests.{eq-eqb, ne_eqb}
 use Rattle.runs.proofs.Lists.{word_two, word-made, nothing-renewed}
 use Rattle.words.specs.Offset.{word_number_answer}
-use borrow.Author.Rules.{rules}
 use Rattle.runs.proofs.renewal.renew_word.Goals as goal
 
 -- src/renewal.rt:22:9

@@ -1,7 +1,7 @@
 -- `runs::resume::renew_crossing` meets its contract.
 use Prim.Native.Nat.{ℕ}
 use mathlib.Core.List.{List}
-use mathlib.Core.Path.{◌≡◌, refl, sym, ap, ◌∙◌}
+use mathlib.Core.Path.{◌≡◌, sym, ap, ◌∙◌}
 use Rattle.words.specs.declared.pointer.Pointer.{Pointer}
 use Rattle.state.specs.declared.record.Frame.{Frame}
 use Rattle.state.specs.declared.record.Register.{Register}
@@ -9,7 +9,6 @@ use Rattle.instructions.specs.declared.cycle.Event.{Event}
 use Rattle.crossings.specs.Crossing.{called_recent}
 use Rattle.lent_registers.specs.Columns.{registers_of}
 use Rattle.runs.specs.Private.{crossed_recent}
-use borrow.Author.Rules.{rules}
 use Rattle.runs.proofs.resume.renew_crossing.Goals as goal
 
 -- the registers at an event that is known to be another

@@ -1,5 +1,4 @@
 -- `runs::resume::resume_crossed` meets its contract.
-use borrow.Author.Rules.{rules}
 use Rattle.runs.proofs.resume.resume_crossed.Goals as goal
 
 pub returns-then-c : goal.returns-then-c

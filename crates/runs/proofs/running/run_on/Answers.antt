@@ -1,19 +1,16 @@
 -- `runs::running::run_on` meets its contract. The invariant: the run that the definition gives has come to the record that the locals hold, and its words.
-use Prim.Native.Nat.{ℕ, ◌+◌, ◌-◌, ◌<◌, ◌≤◌}
+use Prim.Native.Nat.{ℕ, ◌-◌, ◌<◌, ◌≤◌}
 use native.Mathlib.Omega.{arith}
 use mathlib.Core.List.{List, [], ◌∷◌}
 use mathlib.Core.Logic.{⊎_elim}
-use mathlib.Core.Path.{◌≡◌, refl, sym, ap, ◌∙◌}
-use borrow.Author.Rules.{rules}
-use lib.ListN.{length, get_or}
+use mathlib.Core.Path.{◌≡◌, sym, ap, ◌∙◌}
+use lib.ListN.{get_or}
 use types.Run.{OneOf}
 use Rattle.state.specs.declared.record.Machine.{Machine}
-use Rattle.state.specs.Bases.{bases_of}
 use Rattle.state.specs.Record.{live_frame, no_frame}
 use Rattle.runs.specs.declared.outcome.Outcome.{Outcome}
-use Rattle.runs.specs.declared.outcome.End.TheVariants as end
-use Rattle.runs.specs.Run.{Ran, ran, run_from, ran_answer, end_answer}
-use Rattle.runs.proofs.Loops.{Runs, starts, Pauses, pauses, countable, ends_so, crossed-so, bounds, goes_on}
+use Rattle.runs.specs.Run.{run_from, ran_answer}
+use Rattle.runs.proofs.Loops.{starts, pauses, countable, ends_so, crossed-so, bounds, goes_on}
 use Rattle.state.specs.declared.record.Register.{Register}
 use Rattle.lent_registers.specs.Columns.{registers_of}
 use Rattle.runs.proofs.running.run_on.Goals as goal

@@ -1,10 +1,9 @@
 -- `state::bases::bases` meets its contract.
-use Prim.Native.Nat.{◌+◌, ◌*◌, ◌-◌, ◌≤◌, ◌<◌}
+use Prim.Native.Nat.{◌-◌, ◌<◌}
 use native.Mathlib.Omega.{arith}
-use mathlib.Core.Path.{◌≡◌, refl, sym, ap, ◌∙◌}
+use mathlib.Core.Path.{◌≡◌, refl, sym}
 use borrow.Author.Rules.{rules}
-use lib.ListN.{length, get_or}
-use Rattle.state.proofs.Sums.{Found, found-next, found_all, base-zero}
+use Rattle.state.proofs.Sums.{found-next, found_all, base-zero}
 use Rattle.state.proofs.bases.bases.Goals as goal
 
 pub loop-i-init : goal.loop-i-init

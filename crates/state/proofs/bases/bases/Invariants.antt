@@ -1,10 +1,6 @@
 -- `state::bases::bases` meets its contract.
-use Prim.Native.Nat.{◌+◌, ◌*◌, ◌-◌, ◌≤◌, ◌<◌}
-use native.Mathlib.Omega.{arith}
-use mathlib.Core.Path.{◌≡◌, refl, sym, ap, ◌∙◌}
-use borrow.Author.Rules.{rules}
-use lib.ListN.{length, get_or}
-use Rattle.state.proofs.Sums.{Found, found-next, found_all, base-zero}
+use Prim.Native.Nat.{◌-◌}
+use Rattle.state.proofs.Sums.{Found}
 use Rattle.state.proofs.bases.bases.Given as goal
 
 abbrev pub invariant-loop-i : goal.invariant-loop-i

@@ -1,9 +1,8 @@
 -- `state::bases::words_in` meets its contract.
-use Prim.Native.Nat.{◌+◌, ◌*◌, ◌-◌, ◌≤◌, ◌<◌}
+use Prim.Native.Nat.{◌+◌}
 use native.Mathlib.Omega.{arith}
-use mathlib.Core.Path.{◌≡◌, refl, sym, ap, ◌∙◌}
+use mathlib.Core.Path.{sym, ap, ◌∙◌}
 use borrow.Author.Rules.{rules}
-use lib.ListN.{length, get_or}
 use Rattle.state.specs.Bases.{base_of}
 use Rattle.state.proofs.Sums.{base-next, base-zero}
 use Rattle.state.proofs.bases.words_in.Goals as goal

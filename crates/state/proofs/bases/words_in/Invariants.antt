@@ -1,11 +1,7 @@
 -- `state::bases::words_in` meets its contract.
-use Prim.Native.Nat.{◌+◌, ◌*◌, ◌-◌, ◌≤◌, ◌<◌}
-use native.Mathlib.Omega.{arith}
-use mathlib.Core.Path.{◌≡◌, refl, sym, ap, ◌∙◌}
-use borrow.Author.Rules.{rules}
-use lib.ListN.{length, get_or}
+use Prim.Native.Nat.{◌*◌, ◌-◌, ◌≤◌}
+use mathlib.Core.Path.{◌≡◌}
 use Rattle.state.specs.Bases.{base_of}
-use Rattle.state.proofs.Sums.{base-next, base-zero}
 use Rattle.state.proofs.bases.words_in.Given as goal
 
 abbrev pub invariant-loop-i : goal.invariant-loop-i

@@ -1,6 +1,5 @@
 -- `state::frames::live_frame` meets its contract.
 use native.Mathlib.Omega.{arith}
-use borrow.Author.Rules.{rules}
 use Rattle.state.proofs.frames.live_frame.Goals as goal
 
 pub returns-then-n-eq0 : goal.returns-then-n-eq0

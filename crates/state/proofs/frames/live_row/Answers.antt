@@ -1,7 +1,6 @@
 -- `state::frames::live_row` meets its contract.
 use native.Mathlib.Omega.{arith}
 use mathlib.Core.Path.{refl}
-use borrow.Author.Rules.{rules}
 use Rattle.state.proofs.frames.live_row.Goals as goal
 
 pub returns-then-n-eq0 : goal.returns-then-n-eq0

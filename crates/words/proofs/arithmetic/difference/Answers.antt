@@ -1,5 +1,5 @@
 -- `words::arithmetic::difference` meets its contract.
-use Rattle.std.proofs.Common.{arith, rules}
+use Rattle.std.proofs.Common.{arith}
 use Rattle.words.specs.Arithmetic.{difference_of}
 use Rattle.words.proofs.arithmetic.difference.Goals as goal
 

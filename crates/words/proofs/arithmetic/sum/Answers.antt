@@ -1,5 +1,4 @@
 -- `words::arithmetic::sum` meets its contract.
-use Rattle.std.proofs.Common.{rules}
 use Rattle.words.specs.Arithmetic.{sum_of}
 use Rattle.words.proofs.arithmetic.sum.Goals as goal
 

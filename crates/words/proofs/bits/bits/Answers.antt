@@ -1,5 +1,5 @@
 -- `words::bits::bits` meets its contract.
-use Rattle.std.proofs.Common.{◌^◌, ◌<◌, refl, arith, pow_pos, rules}
+use Rattle.std.proofs.Common.{refl, pow_pos}
 use Rattle.words.proofs.Fields.{power, masked, field_lt}
 use Rattle.words.proofs.bits.bits.Goals as goal
 

@@ -1,5 +1,5 @@
 -- `words::instruction::decode` meets its contract.
-use Rattle.std.proofs.Common.{◌<◌, refl, inl, inr, arith, rules}
+use Rattle.std.proofs.Common.{◌<◌, refl, arith}
 use borrow.Author.Tests.{lt-leb}
 use Rattle.words.specs.InstructionWord.{instruction_of}
 use Rattle.words.proofs.Masks.{run-mask}

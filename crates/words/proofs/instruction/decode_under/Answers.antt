@@ -1,5 +1,5 @@
 -- `words::instruction::decode_under` meets its contract.
-use Rattle.std.proofs.Common.{◌≡◌, ◌^◌, ◌<◌, ◌≢◌, w32, rules, eq-eqb, ne_eqb, le-leb}
+use Rattle.std.proofs.Common.{◌≡◌, ◌^◌, ◌<◌, ◌≢◌, w32, eq-eqb, ne_eqb, le-leb}
 use lib.Bits.{bit_and}
 use mir.ValLaws.{to_z-of_z}
 use Rattle.words.specs.InstructionWord.{instruction_of}

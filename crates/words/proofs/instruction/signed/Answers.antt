@@ -1,5 +1,5 @@
 -- `words::instruction::signed` meets its contract.
-use Rattle.std.proofs.Common.{◌≡◌, ℕ, ◌+◌, ◌-◌, ◌%◌, ◌^◌, ◌<◌, ◌≤◌, Bool, true, false, ltb, pos, negsuc, ◌-ℤ◌, sym, refl, ap, ◌∙◌, arith, w32, SFits, to_z, of_z, rules, ltb-false, ltb-true, le-ltb, lt-ltb}
+use Rattle.std.proofs.Common.{◌≡◌, ℕ, ◌+◌, ◌%◌, ◌^◌, ◌<◌, ◌≤◌, Bool, true, false, ltb, pos, negsuc, ◌-ℤ◌, sym, refl, ap, ◌∙◌, arith, w32, SFits, to_z, ltb-false, ltb-true}
 use lib.IntN.{sub_ℕ}
 use mir.ValLaws.{to_z-of_z, to_z_pos}
 use Rattle.words.specs.Offset.{signed_of}

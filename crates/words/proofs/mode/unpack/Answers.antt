@@ -1,5 +1,5 @@
 -- `words::mode::unpack` meets its contract.
-use Rattle.std.proofs.Common.{◌≡◌, ◌≤◌, true, leb, arith, rules, eq-eqb, ne_eqb, le-leb}
+use Rattle.std.proofs.Common.{◌≡◌, true, leb, arith, eq-eqb, ne_eqb, le-leb}
 use borrow.Author.Tests.{lt-leb}
 use Rattle.words.specs.ModeWord.{mode_of}
 use Rattle.words.proofs.mode.unpack.Goals as goal

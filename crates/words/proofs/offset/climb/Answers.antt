@@ -1,5 +1,5 @@
 -- `words::offset::climb` meets its contract.
-use Rattle.std.proofs.Common.{rules, le-leb}
+use Rattle.std.proofs.Common.{le-leb}
 use borrow.Author.Tests.{lt-leb}
 use Rattle.words.specs.Offset.{displaced_of}
 use Rattle.words.proofs.offset.climb.Goals as goal

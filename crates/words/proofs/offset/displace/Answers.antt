@@ -1,8 +1,6 @@
 -- `words::offset::displace` meets its contract. The machine adds what it reads back from the bits of its operands, which are the operands.
-use Rattle.std.proofs.Common.{◌≡◌, ◌^◌, ◌<◌, true, false, T, ℤ, pos, negsuc, ◌+ℤ◌, nat_abs, sym, ap, ◌∙◌, subst, arith, w16, w32, Fits, SFits, to_z, of_z, rules}
-use lib.Signed.{lt_z, non_neg}
+use Rattle.std.proofs.Common.{◌≡◌, ◌<◌, ℤ, pos, ◌+ℤ◌, sym, arith, w32, SFits, to_z, of_z}
 use mir.ValLaws.{to_z-of_z, to_z_pos}
-use Rattle.words.specs.Answer.{ok}
 use Rattle.words.specs.Offset.{displaced_of}
 use Rattle.words.proofs.Integers.{Inside, too-low, too-high, sum-small, negative, above, inside}
 use Rattle.words.proofs.offset.displace.Goals as goal

@@ -1,6 +1,5 @@
 -- `words::offset::literal` meets its contract. The machine works with what it reads back from bits, which are the offset's.
-use Rattle.std.proofs.Common.{◌≡◌, ◌^◌, ◌<◌, ℤ, pos, ◌+ℤ◌, nat_abs, sym, ap, ◌∙◌, arith, w32, w64, SFits, to_z, of_z}
-use lib.Signed.{mag}
+use Rattle.std.proofs.Common.{◌≡◌, ◌^◌, pos, ◌+ℤ◌, nat_abs, sym, ap, ◌∙◌, arith, w32, w64, SFits, to_z, of_z}
 use mir.ValLaws.{to_z-of_z}
 use Rattle.words.specs.Offset.{literal_of}
 use Rattle.words.proofs.Integers.{wrapped, kept, literal-lt}

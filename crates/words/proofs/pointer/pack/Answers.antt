@@ -1,5 +1,5 @@
 -- `words::pointer::pack` meets its contract.
-use Rattle.std.proofs.Common.{◌≡◌, ◌%◌, ◌^◌, ◌<◌, Bool, true, false, refl, mod-lt, arith, pow_pos, rules}
+use Rattle.std.proofs.Common.{◌≡◌, ◌%◌, ◌^◌, ◌<◌, Bool, true, false, refl, mod-lt, arith, pow_pos}
 use lib.Bits.{and_mask}
 use mir.Val.{bool_byte}
 use Rattle.words.specs.Bit.{bit}

@@ -1,5 +1,5 @@
 -- `words::pointer::unpack` meets its contract.
-use Rattle.std.proofs.Common.{rules, eq-eqb, ne_eqb}
+use Rattle.std.proofs.Common.{eq-eqb, ne_eqb}
 use Rattle.words.specs.PointerWord.{pointer_of}
 use Rattle.words.proofs.pointer.unpack.Goals as goal
 
