@@ -2,9 +2,9 @@
 use Prim.Native.Nat.{ℕ, zero, suc, ◌+◌, ◌<◌, ◌≤◌}
 use native.Mathlib.Omega.{arith}
 use native.Mathlib.Nat.{le_of_suc-le-suc}
-use mathlib.Core.Path.{◌≡◌, refl, sym, ap, ◌∙◌, subst}
-use mathlib.Core.List.{List, [], ◌∷◌, ◌++◌, map, map-id}
-use lib.ListN.{length, get_or, drop, length-append, length-map}
+use mathlib.Core.Path.{◌≡◌, refl, sym, ap, ◌∙◌}
+use mathlib.Core.List.{List, [], ◌∷◌, ◌++◌}
+use lib.ListN.{length, get_or, drop, length-append}
 use lib.Seq.{sets, sets-eq}
 use mir.Val.{Val}
 use base.Fml.{Fml}
@@ -13,7 +13,7 @@ use denote.Shadow.{shadow}
 use denote.Struct.Declared.{row}
 use Rattle.state.specs.declared.record.Frame.{Frame}
 use Rattle.state.specs.declared.record.Machine.{Machine}
-use Rattle.state.specs.contracts.record.Frame.{the_type, the_field}
+use Rattle.state.specs.contracts.record.Frame.{the_type, the_row}
 use Rattle.state.specs.Record.{no_capability, no_pointer, no_frame, free_frame, no_register}
 use Rattle.snapshot_format.specs.Format.{byte_form, pair_form, counted}
 use Rattle.image_format.specs.Bytes.{joined}
@@ -22,8 +22,8 @@ use Rattle.snapshot_format.specs.Statements.{FullArrays}
 use Rattle.snapshot_writer.proofs.Laws.{Sized, follows, rows-size, rows-follow, counted-size}
 
 -- each frame of an array has nine rows, where owning a frame tells that it has
-module _ {X : Type 0} (own : X → List Val → Fml) (to : Frame → X) (nine : (f : Frame) (u : Val) → shadow (own (to f) (u ∷ [])) → length f.capabilities ≡ 9) where
-  rows_at : (xs : List Frame) (us : List Val) → shadow (each X own (map to xs) us) → (k : ℕ) → k < length xs → length (get_or xs k no_frame).capabilities ≡ 9
+module _ (own : Frame → List Val → Fml) (nine : (f : Frame) (u : Val) → shadow (own f (u ∷ [])) → length f.capabilities ≡ 9) where
+  rows_at : (xs : List Frame) (us : List Val) → shadow (each Frame own xs us) → (k : ℕ) → k < length xs → length (get_or xs k no_frame).capabilities ≡ 9
   rows_at [] us g k h = absurd (omega arith)
   rows_at (x ∷ xs) [] g k h = absurd g
   rows_at (x ∷ xs) (u ∷ us) g zero h = nine x u g.0
@@ -31,13 +31,11 @@ module _ {X : Type 0} (own : X → List Val → Fml) (to : Frame → X) (nine : 
 
 -- of a field, and of a parameter
 module _ (xs : List Frame) (us : List Val) where
-  pub field-rows : shadow (each the_field.row.Denot the_field.row.own_val (map the_field.into xs) us) → (k : ℕ) → k < length xs → length (get_or xs k no_frame).capabilities ≡ 9
-  field-rows g = rows_at the_field.row.own_val the_field.into (λ f u o. simp length-map at o.1.1.0.1.0.1) xs us g
+  pub field-rows : shadow (each the_row.Denot the_row.own_val xs us) → (k : ℕ) → k < length xs → length (get_or xs k no_frame).capabilities ≡ 9
+  field-rows g = rows_at the_row.own_val (λ f u o. o.1.1.0.1.0.1) xs us g
 
   pub value-rows : shadow (each Frame (row the_type).own_val xs us) → (k : ℕ) → k < length xs → length (get_or xs k no_frame).capabilities ≡ 9
-  value-rows g =
-      rows_at (row the_type).own_val (λ f. f) (λ f u o. simp length-map at o.1.1.0.1.0.1) xs us
-      (subst (λ (ys : List Frame). shadow (each Frame (row the_type).own_val ys us)) (sym (map-id xs)) g)
+  value-rows g = rows_at (row the_type).own_val (λ f u o. o.1.1.0.1.0.1) xs us g
 
 pub frame-size : (f : Frame) → length f.capabilities ≡ 9 → length (frame_form.bytes f) ≡ 82
 frame-size f h =
