@@ -1,6 +1,6 @@
 -- Effective pointers.
-use Rattle.std.specs.Prelude.{ℕ, ◌||◌, List, ℤ, get_or}
-use Rattle.words.specs.Answer.{Answer, refuse, ok, ◌>>=◌, if◌then◌else◌}
+use Rattle.std.specs.Prelude.{ℕ, ◌||◌, List, ℤ, get_or, if◌then◌else◌}
+use Rattle.words.specs.Answer.{Answer, refuse, ok, ◌>>=◌}
 use Rattle.words.specs.Offset.{displaced_of}
 use Rattle.words.specs.PointerWord.{pointer_of}
 use Rattle.words.specs.declared.pointer.Pointer.{Pointer}

@@ -1,6 +1,6 @@
 -- The argument list of a call through a gate, and the frame made of it.
-use Rattle.std.specs.Prelude.{ℕ, zero, suc, ◌+◌, ◌*◌, true, false, not, List, [], ◌∷◌, eqb, leb, pos, replicate, set}
-use Rattle.words.specs.Answer.{Answer, refuse, ok, ◌>>=◌, ◌>>◌, require, if◌then◌else◌}
+use Rattle.std.specs.Prelude.{ℕ, zero, suc, ◌+◌, ◌*◌, true, false, not, List, [], ◌∷◌, eqb, leb, pos, replicate, set, if◌then◌else◌}
+use Rattle.words.specs.Answer.{Answer, refuse, ok, ◌>>=◌, ◌>>◌, require}
 use Rattle.words.specs.Numbers.{bad_argument}
 use Rattle.words.specs.PointerWord.{pointer_of}
 use Rattle.words.specs.ModeWord.{mode_of}

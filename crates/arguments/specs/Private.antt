@@ -1,6 +1,6 @@
 -- Definitions that only contracts of private functions cite.
-use Rattle.std.specs.Prelude.{List}
-use Rattle.words.specs.Answer.{Answer, refuse, ok, if◌then◌else◌}
+use Rattle.std.specs.Prelude.{List, if◌then◌else◌}
+use Rattle.words.specs.Answer.{Answer, refuse, ok}
 use Rattle.state.specs.declared.record.Capability.{Capability}
 use Rattle.arguments.specs.declared.Rows.{Rows}
 

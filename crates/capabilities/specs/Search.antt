@@ -1,6 +1,6 @@
 -- The search of a run of capabilities.
-use Rattle.std.specs.Prelude.{ℕ, ◌+◌, Bool, true, ◌&&◌, List, [], ◌∷◌, leb, eqb}
-use Rattle.words.specs.Answer.{Answer, refuse, ok, if◌then◌else◌}
+use Rattle.std.specs.Prelude.{ℕ, ◌+◌, Bool, true, ◌&&◌, List, [], ◌∷◌, leb, eqb, if◌then◌else◌}
+use Rattle.words.specs.Answer.{Answer, refuse, ok}
 use Rattle.words.specs.Numbers.{no_match}
 use Rattle.state.specs.declared.record.Capability.{Capability}
 use Rattle.capabilities.specs.declared.CapabilityAnswer.{CapabilityAnswer}

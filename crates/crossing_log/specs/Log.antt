@@ -1,6 +1,5 @@
 -- The log of a run: its crossings as bytes, and how many there are of each kind.
-use Rattle.std.specs.Prelude.{ℕ, ◌+◌, Bool, true, false, List, [], ◌∷◌, eqb, leb, length}
-use Rattle.words.specs.Answer.{if◌then◌else◌}
+use Rattle.std.specs.Prelude.{ℕ, ◌+◌, Bool, true, false, List, [], ◌∷◌, eqb, leb, length, if◌then◌else◌}
 use Rattle.words.specs.Bit.{bit}
 use Rattle.words.specs.Numbers.{output_too_short}
 use Rattle.state.specs.declared.record.Machine.{Machine}

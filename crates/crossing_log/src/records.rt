@@ -1,7 +1,6 @@
 // The records of a log.
-ghost use Rattle.std.specs.Prelude.{◌≡◌, ◌+◌, ◌≤◌, length};
+ghost use Rattle.std.specs.Prelude.{◌≡◌, ◌+◌, ◌≤◌, length, if◌then◌else◌};
 ghost use Rattle.image_format.specs.Output.{written};
-ghost use Rattle.words.specs.Answer.{if◌then◌else◌};
 ghost use Rattle.crossing_log.specs.Crossings.{call, return, crossing_by};
 ghost use Rattle.crossing_log.specs.Log.{kind_byte, crossing_bytes};
 

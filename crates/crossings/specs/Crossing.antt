@@ -1,6 +1,6 @@
 -- Crossings: calls through a gate and returns across domains (cross-domain calls and returns).
-use Rattle.std.specs.Prelude.{ℕ, ◌+◌, ◌-◌, ◌*◌, Bool, true, ◌&&◌, List, eqb, leb, get_or, set}
-use Rattle.words.specs.Answer.{Answer, ok, ◌>>=◌, if◌then◌else◌}
+use Rattle.std.specs.Prelude.{ℕ, ◌+◌, ◌-◌, ◌*◌, Bool, true, ◌&&◌, List, eqb, leb, get_or, set, if◌then◌else◌}
+use Rattle.words.specs.Answer.{Answer, ok, ◌>>=◌}
 use Rattle.words.specs.Numbers.{bad_return}
 use Rattle.words.specs.declared.pointer.Pointer.{Pointer}
 use Rattle.state.specs.declared.record.Frame.{Frame}

@@ -1,11 +1,12 @@
 -- A fault leaves record and words as they were before the instruction, a refused call as they came in.
+use Rattle.std.specs.Prelude.{if◌then◌else◌}
 use Prim.Native.Nat.{ℕ, zero, suc, ◌+◌}
 use mathlib.Core.Bool.{Bool, true, false}
 use mathlib.Core.List.{List}
 use mathlib.Core.Path.{◌≡◌, refl, ap}
 use borrow.Author.Tests.{ne_eqb}
 use lib.Dec.{eqb}
-use Rattle.words.specs.Answer.{Answer, refuse, ok, if◌then◌else◌}
+use Rattle.words.specs.Answer.{Answer, refuse, ok}
 use Rattle.state.specs.declared.record.Machine.{Machine}
 use Rattle.runs.specs.Step.{Completion, stopped, proceeded, crossing, Done, execute}
 use Rattle.runs.specs.Run.{Ran, ran, Ending, halted, spent, crossed, faulted, refused, after, after_completion, run_from, judged, called_of}

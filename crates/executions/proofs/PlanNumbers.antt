@@ -1,4 +1,5 @@
 -- What plans and frames refuse with is the number of a fault.
+use Rattle.std.specs.Prelude.{if◌then◌else◌}
 use Prim.Native.Nat.{ℕ, zero, suc, ◌+◌, ◌*◌}
 use native.Mathlib.Omega.{arith}
 use mathlib.Core.Bool.{Bool, true, false, not}
@@ -6,7 +7,7 @@ use mathlib.Core.List.{List}
 use lib.Dec.{eqb, ltb, leb}
 use lib.IntN.{pos}
 use lib.ListN.{get_or, set, replicate}
-use Rattle.words.specs.Answer.{Answer, ok, ◌>>◌, require, if◌then◌else◌}
+use Rattle.words.specs.Answer.{Answer, ok, ◌>>◌, require}
 use Rattle.words.specs.PointerWord.{pointer_of}
 use Rattle.words.specs.InstructionWord.{instruction_of}
 use Rattle.words.specs.ModeWord.{mode_of}

@@ -1,4 +1,5 @@
 -- What a sound machine plans is in range.
+use Rattle.std.specs.Prelude.{if◌then◌else◌}
 use Prim.Native.Nat.{ℕ, ◌+◌, ◌<◌, ◌≤◌}
 use native.Mathlib.Omega.{arith}
 use mathlib.Core.Bool.{Bool, true, false, not}
@@ -7,7 +8,7 @@ use mathlib.Core.Path.{◌≡◌, refl, sym}
 use borrow.Author.Tests.{ltb-true}
 use lib.Dec.{eqb, ltb}
 use lib.ListN.{get_or}
-use Rattle.words.specs.Answer.{Answer, ok, ◌>>◌, require, if◌then◌else◌}
+use Rattle.words.specs.Answer.{Answer, ok, ◌>>◌, require}
 use Rattle.words.specs.InstructionWord.{instruction_of}
 use Rattle.words.specs.declared.pointer.Pointer.{Pointer}
 use Rattle.words.specs.declared.instruction.Instruction.{Instruction}

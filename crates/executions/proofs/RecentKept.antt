@@ -1,11 +1,12 @@
 -- Sound registers stay sound in a step: by the references of an instruction, whatever its reader, by a call, by a return.
+use Rattle.std.specs.Prelude.{if◌then◌else◌}
 use Prim.Native.Nat.{ℕ, ◌+◌, ◌-◌, ◌*◌, ◌<◌, ◌≤◌}
 use mathlib.Core.Bool.{Bool, true, false, not}
 use mathlib.Core.List.{List, [], ◌∷◌}
 use mathlib.Core.Path.{◌≡◌}
 use borrow.Author.Tests.{le-leb}
 use lib.ListN.{length, get_or, set}
-use Rattle.words.specs.Answer.{Answer, if◌then◌else◌}
+use Rattle.words.specs.Answer.{Answer}
 use Rattle.words.specs.declared.pointer.Pointer.{Pointer}
 use Rattle.words.specs.declared.instruction.Instruction.{Instruction}
 use Rattle.state.specs.declared.record.Frame.{Frame}

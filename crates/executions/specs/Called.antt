@@ -1,6 +1,5 @@
 -- Calls of step, each on the record and the words that the one before left.
-use Rattle.std.specs.Prelude.{ℕ, zero, suc, ◌+◌, List, eqb}
-use Rattle.words.specs.Answer.{if◌then◌else◌}
+use Rattle.std.specs.Prelude.{ℕ, zero, suc, ◌+◌, List, eqb, if◌then◌else◌}
 use Rattle.state.specs.declared.record.Machine.{Machine}
 use Rattle.runs.specs.Run.{Ran, ran, halted, spent, crossed, faulted}
 use Rattle.processor.specs.Calls.{Step, step_call}

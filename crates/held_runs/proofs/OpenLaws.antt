@@ -1,4 +1,5 @@
 -- What a call does first: it opens the record that bytes hold, or is refused.
+use Rattle.std.specs.Prelude.{if◌then◌else◌}
 use Prim.Native.Nat.{ℕ}
 use native.Mathlib.Omega.{arith}
 use mathlib.Core.Bool.{Bool, true, false, ◌&&◌}
@@ -6,7 +7,7 @@ use mathlib.Core.List.{List}
 use mathlib.Core.Path.{◌≡◌, refl, sym, ap}
 use lib.Dec.{leb}
 use lib.ListN.{length}
-use Rattle.words.specs.Answer.{Answer, refuse, ok, ◌>>=◌, ◌>>◌, require, number_of, if◌then◌else◌}
+use Rattle.words.specs.Answer.{Answer, refuse, ok, ◌>>=◌, ◌>>◌, require, number_of}
 use Rattle.state.specs.declared.record.Machine.{Machine}
 use Rattle.snapshot_format.specs.RecordForm.{record_form, record_in, held}
 use Rattle.snapshot_reader.specs.Formed.{formed, record_or}

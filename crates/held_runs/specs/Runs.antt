@@ -1,6 +1,6 @@
 -- Runs, stretches and steps of the record that bytes hold.
-use Rattle.std.specs.Prelude.{ℕ, ◌+◌, ◌*◌, List, eqb}
-use Rattle.words.specs.Answer.{Answer, refuse, ok, ◌>>=◌, if◌then◌else◌}
+use Rattle.std.specs.Prelude.{ℕ, ◌+◌, ◌*◌, List, eqb, if◌then◌else◌}
+use Rattle.words.specs.Answer.{Answer, refuse, ok, ◌>>=◌}
 use Rattle.words.specs.Bit.{bit}
 use Rattle.state.specs.declared.record.Machine.{Machine}
 use Rattle.snapshot_format.specs.RecordForm.{with_record}

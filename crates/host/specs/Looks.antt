@@ -1,6 +1,6 @@
 -- What a host learns of the record that its bytes hold: the check of a reference, and where a segment lies.
-use Rattle.std.specs.Prelude.{ℕ, not, List, eqb, get_or}
-use Rattle.words.specs.Answer.{Answer, ok, ◌>>=◌, ◌>>◌, if◌then◌else◌}
+use Rattle.std.specs.Prelude.{ℕ, not, List, eqb, get_or, if◌then◌else◌}
+use Rattle.words.specs.Answer.{Answer, ok, ◌>>=◌, ◌>>◌}
 use Rattle.words.specs.declared.pointer.Pointer.{Pointer}
 use Rattle.state.specs.Bases.{base_of}
 use Rattle.references.specs.declared.flag.Access.{Access}

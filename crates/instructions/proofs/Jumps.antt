@@ -1,11 +1,12 @@
 -- What an opcode that neither reads into A nor stores does, by whether it jumps.
+use Rattle.std.specs.Prelude.{if◌then◌else◌}
 use Prim.Native.Nat.{ℕ}
 use mathlib.Core.Bool.{Bool, true, false, not}
 use mathlib.Core.List.{List}
 use mathlib.Core.Path.{◌≡◌, refl, sym}
 use borrow.Author.Tests.{eqb-true}
 use lib.Dec.{eqb}
-use Rattle.words.specs.Answer.{Answer, ok, if◌then◌else◌}
+use Rattle.words.specs.Answer.{Answer, ok}
 use Rattle.words.specs.declared.pointer.Pointer.{Pointer}
 use Rattle.state.specs.declared.record.Registers.{Registers}
 use Rattle.references.proofs.Passes.{never}

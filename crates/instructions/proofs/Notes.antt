@@ -1,11 +1,12 @@
 -- The registers after an instruction's references, one by one.
+use Rattle.std.specs.Prelude.{if◌then◌else◌}
 use Prim.Native.Nat.{ℕ}
 use mathlib.Core.Bool.{Bool, true, false, ◌||◌}
 use mathlib.Core.List.{List, [], ◌∷◌}
 use mathlib.Core.Path.{◌≡◌, refl, sym, ap, ◌∙◌}
 use native.Mathlib.Omega.{arith}
 use lib.ListN.{get_or}
-use Rattle.words.specs.Answer.{Answer, refuse, ok, ◌>>=◌, if◌then◌else◌}
+use Rattle.words.specs.Answer.{Answer, refuse, ok, ◌>>=◌}
 use Rattle.words.specs.PointerWord.{pointer_of}
 use Rattle.words.specs.declared.pointer.Pointer.{Pointer}
 use Rattle.words.specs.declared.instruction.Instruction.{Instruction}

@@ -1,6 +1,6 @@
 -- The thirteen instructions.
-use Rattle.std.specs.Prelude.{ℕ, ◌+◌, ◌^◌, Bool, false, ◌||◌, List, eqb, leb, get_or, set}
-use Rattle.words.specs.Answer.{Answer, ok, ◌>>=◌, if◌then◌else◌}
+use Rattle.std.specs.Prelude.{ℕ, ◌+◌, ◌^◌, Bool, false, ◌||◌, List, eqb, leb, get_or, set, if◌then◌else◌}
+use Rattle.words.specs.Answer.{Answer, ok, ◌>>=◌}
 use Rattle.words.specs.Arithmetic.{sum_of, difference_of}
 use Rattle.words.specs.Offset.{literal_of}
 use Rattle.words.specs.PointerWord.{pointer_word}

@@ -1,6 +1,6 @@
 -- Definitions that only contracts of private functions cite.
-use Rattle.std.specs.Prelude.{ℕ, ◌+◌, Bool, true, false, not, List, eqb, ◌≡◌}
-use Rattle.words.specs.Answer.{Answer, ok, ◌>>=◌, if◌then◌else◌}
+use Rattle.std.specs.Prelude.{ℕ, ◌+◌, Bool, true, false, not, List, eqb, ◌≡◌, if◌then◌else◌}
+use Rattle.words.specs.Answer.{Answer, ok, ◌>>=◌}
 use Rattle.words.specs.declared.pointer.Pointer.{Pointer}
 use Rattle.state.specs.declared.record.Registers.{Registers}
 use Rattle.pointer_registers.specs.Stack.{with_base}

@@ -1,11 +1,12 @@
 -- A domain with no W, whose live frame has no capability with W, could write nothing.
+use Rattle.std.specs.Prelude.{if◌then◌else◌}
 use Prim.Native.Nat.{ℕ, suc}
 use mathlib.Core.Bool.{Bool, true, false, ◌||◌, and-false}
 use mathlib.Core.List.{List, [], ◌∷◌}
 use mathlib.Core.Path.{◌≡◌, refl}
 use lib.Dec.{eqb}
 use lib.ListN.{get_or}
-use Rattle.words.specs.Answer.{refuse, if◌then◌else◌}
+use Rattle.words.specs.Answer.{refuse}
 use Rattle.words.specs.Numbers.{no_match, no_word, flag_missing}
 use Rattle.state.specs.declared.record.Capability.{Capability}
 use Rattle.state.specs.declared.record.Machine.{Machine}

@@ -1,11 +1,11 @@
 -- Tests in a row and tests by cases, as code with early returns comes to them.
+use Rattle.std.specs.Prelude.{if◌then◌else◌}
 use Prim.Native.Nat.{ℕ, ◌<◌, ◌≤◌}
 use mathlib.Core.Path.{◌≡◌, refl, sym, ◌∙◌, ap}
 use mathlib.Core.Bool.{Bool, true, false, ◌&&◌}
 use native.Mathlib.Omega.{arith}
 use borrow.Author.Tests.{le-leb, lt-leb, leb-true}
 use lib.Dec.{leb}
-use Rattle.words.specs.Answer.{if◌then◌else◌}
 use Rattle.layout_soundness.specs.SoundLayout.{between}
 
 -- one test is passed, and one fails

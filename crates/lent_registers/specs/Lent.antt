@@ -1,6 +1,6 @@
 -- What the place of a register stands for.
-use Rattle.std.specs.Prelude.{ℕ, List, ltb}
-use Rattle.words.specs.Answer.{Answer, refuse, ok, if◌then◌else◌}
+use Rattle.std.specs.Prelude.{ℕ, List, ltb, if◌then◌else◌}
+use Rattle.words.specs.Answer.{Answer, refuse, ok}
 use Rattle.words.specs.Numbers.{no_match}
 use Rattle.state.specs.declared.record.Register.{Register}
 use Rattle.lent_registers.specs.Columns.{register_at}

@@ -1,6 +1,5 @@
 -- Definitions that only contracts of private functions cite.
-use Rattle.std.specs.Prelude.{ℕ, ◌+◌, ◌*◌, ◌-◌, ◌%◌, ◌/◌, ◌<◌, List, [], ◌∷◌, ◌≡◌, eqb, get_or, set}
-use Rattle.words.specs.Answer.{if◌then◌else◌}
+use Rattle.std.specs.Prelude.{ℕ, ◌+◌, ◌*◌, ◌-◌, ◌%◌, ◌/◌, ◌<◌, List, [], ◌∷◌, ◌≡◌, eqb, get_or, set, if◌then◌else◌}
 use Rattle.words.specs.Bit.{bit}
 use Rattle.state.specs.declared.record.Register.{Register}
 use Rattle.state.specs.Record.{no_capability}

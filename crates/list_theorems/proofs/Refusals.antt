@@ -1,4 +1,5 @@
 -- The refusals of a list: too many arguments, not covered, past word 4,095.
+use Rattle.std.specs.Prelude.{if◌then◌else◌}
 use Prim.Native.Nat.{ℕ, ◌+◌, ◌*◌, ◌<◌, ◌≤◌}
 use native.Mathlib.Omega.{arith}
 use mathlib.Core.Bool.{Bool, true, false, ◌&&◌}
@@ -6,7 +7,7 @@ use mathlib.Core.Path.{◌≡◌, refl}
 use borrow.Author.Tests.{le-leb, lt-leb, eqb-false}
 use lib.Dec.{eqb, leb}
 use lib.ListN.{get_or, take}
-use Rattle.words.specs.Answer.{refuse, if◌then◌else◌}
+use Rattle.words.specs.Answer.{refuse}
 use Rattle.state.specs.declared.record.Capability.{Capability}
 use Rattle.state.specs.declared.record.Machine.{Machine}
 use Rattle.state.specs.Record.{no_capability, in_use}

@@ -1,11 +1,12 @@
 -- The first capability of some rows that fits, by what fits.
+use Rattle.std.specs.Prelude.{if◌then◌else◌}
 use Prim.Native.Nat.{ℕ, zero, suc, ◌<◌}
 use native.Mathlib.Omega.{arith}
 use mathlib.Core.Bool.{Bool, true, false}
 use mathlib.Core.List.{List, [], ◌∷◌}
 use mathlib.Core.Path.{◌≡◌, refl, sym, ◌∙◌}
 use lib.ListN.{get_or, take}
-use Rattle.words.specs.Answer.{refuse, ok, if◌then◌else◌}
+use Rattle.words.specs.Answer.{refuse, ok}
 use Rattle.state.specs.declared.record.Capability.{Capability}
 use Rattle.state.specs.Record.{no_capability}
 use Rattle.capabilities.specs.Search.{first_of}

@@ -1,4 +1,5 @@
 -- The call that logs a run.
+use Rattle.std.specs.Prelude.{if◌then◌else◌}
 use Prim.Native.Nat.{ℕ, ◌+◌, ◌-◌, ◌*◌, ◌≤◌}
 use native.Mathlib.Omega.{arith}
 use native.Mathlib.Nat.{zero-add}
@@ -9,7 +10,6 @@ use borrow.Author.Tests.{le-leb, ne_eqb, eqb-true}
 use lib.Dec.{eqb}
 use lib.ListN.{length, get_or, drop, length-append}
 use lib.Seq.{get_or-append-add, get_or-drop}
-use Rattle.words.specs.Answer.{if◌then◌else◌}
 use Rattle.state.specs.declared.record.Machine.{Machine}
 use Rattle.fresh.specs.Fresh.{fresh_of}
 use Rattle.runs.specs.Run.{ran, refused, run_from, judged, called_of}

@@ -1,6 +1,5 @@
 -- The crossings that the bytes of a log hold.
-use Rattle.std.specs.Prelude.{ℕ, ◌+◌, ◌*◌, List, eqb, get_or}
-use Rattle.words.specs.Answer.{if◌then◌else◌}
+use Rattle.std.specs.Prelude.{ℕ, ◌+◌, ◌*◌, List, eqb, get_or, if◌then◌else◌}
 use Rattle.image_format.specs.Image.{rows_from}
 use Rattle.crossing_log.specs.Crossings.{Kind, call, return, Crossing}
 

@@ -1,6 +1,5 @@
 -- The stack segment of a domain, and register b, which points to it.
-use Rattle.std.specs.Prelude.{ℕ, false, List, ltb, get_or, set}
-use Rattle.words.specs.Answer.{if◌then◌else◌}
+use Rattle.std.specs.Prelude.{ℕ, false, List, ltb, get_or, set, if◌then◌else◌}
 use Rattle.words.specs.declared.pointer.Pointer.{Pointer}
 
 -- pointer register b at word 0 of a stack segment

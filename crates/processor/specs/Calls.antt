@@ -1,6 +1,6 @@
 -- Steps, runs and stretches: the calls on a machine.
-use Rattle.std.specs.Prelude.{ℕ, Bool, true, false, List, eqb}
-use Rattle.words.specs.Answer.{Answer, refuse, ok, if◌then◌else◌}
+use Rattle.std.specs.Prelude.{ℕ, Bool, true, false, List, eqb, if◌then◌else◌}
+use Rattle.words.specs.Answer.{Answer, refuse, ok}
 use Rattle.state.specs.declared.record.Machine.{Machine}
 use Rattle.runs.specs.Step.{is_stop, Done, execute}
 use Rattle.runs.specs.Run.{Ran, run_from, judged, called_of}

@@ -1,4 +1,5 @@
 -- Every row of the table holds: one test that is computed over the table, and what it says of each row.
+use Rattle.std.specs.Prelude.{if◌then◌else◌}
 use Prim.Native.Nat.{ℕ, suc, zero}
 use mathlib.Core.Bool.{Bool, true, false}
 use mathlib.Core.List.Memᴰ
@@ -9,7 +10,7 @@ use native.Mathlib.Omega.{arith}
 use borrow.Author.Tests.{eqb-true}
 use lib.ListN.{take, drop}
 use lib.Dec.{eqb}
-use Rattle.words.specs.Answer.{Answer, refuse, ok, if◌then◌else◌}
+use Rattle.words.specs.Answer.{Answer, refuse, ok}
 use Rattle.words.specs.Field.{field, common}
 use Rattle.words.specs.Arithmetic.{sum_of, difference_of}
 use Rattle.words.specs.PointerWord.{pointer_word, pointer_of}

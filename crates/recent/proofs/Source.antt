@@ -1,11 +1,12 @@
 -- A reference finds a capability of the same source through the registers as without them.
+use Rattle.std.specs.Prelude.{if◌then◌else◌}
 use Prim.Native.Nat.{ℕ, ◌-◌, ◌≤◌}
 use mathlib.Core.Bool.{Bool, true, false}
 use mathlib.Core.List.{List, []}
 use mathlib.Core.Path.{◌≡◌, refl, sym, ap, ◌∙◌}
 use lib.Dec.{eqb}
 use lib.ListN.{get_or}
-use Rattle.words.specs.Answer.{Answer, refuse, ok, ◌>>=◌, if◌then◌else◌}
+use Rattle.words.specs.Answer.{Answer, refuse, ok, ◌>>=◌}
 use Rattle.state.specs.declared.record.Capability.{Capability}
 use Rattle.state.specs.declared.record.Frame.{Frame}
 use Rattle.state.specs.declared.record.Register.{Register}

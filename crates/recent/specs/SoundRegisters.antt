@@ -1,6 +1,5 @@
 -- When the registers of a machine record are sound.
-use Rattle.std.specs.Prelude.{ℕ, ◌-◌, Bool, true, not, ◌&&◌, List, [], ◌∷◌, leb, eqb, get_or}
-use Rattle.words.specs.Answer.{if◌then◌else◌}
+use Rattle.std.specs.Prelude.{ℕ, ◌-◌, Bool, true, not, ◌&&◌, List, [], ◌∷◌, leb, eqb, get_or, if◌then◌else◌}
 use Rattle.state.specs.declared.record.Frame.{Frame}
 use Rattle.state.specs.declared.record.Register.{Register}
 use Rattle.state.specs.Record.{no_capability, no_frame}

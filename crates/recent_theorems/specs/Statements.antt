@@ -1,6 +1,6 @@
 -- What is proved of the registers of recent capabilities; the proofs stand in proofs/.
-use Rattle.std.specs.Prelude.{ℕ, Bool, true, false, not, List, [], ◌∷◌, map, ◌≡◌, eqb, length, get_or, replicate}
-use Rattle.words.specs.Answer.{Answer, ok, ◌>>=◌, if◌then◌else◌}
+use Rattle.std.specs.Prelude.{ℕ, Bool, true, false, not, List, [], ◌∷◌, map, ◌≡◌, eqb, length, get_or, replicate, if◌then◌else◌}
+use Rattle.words.specs.Answer.{Answer, ok, ◌>>=◌}
 use Rattle.words.specs.declared.pointer.Pointer.{Pointer}
 use Rattle.words.specs.declared.instruction.Instruction.{Instruction}
 use Rattle.state.specs.declared.record.Layout.{Layout}

@@ -1,6 +1,5 @@
 -- The static check.
-use Rattle.std.specs.Prelude.{ℕ, ◌+◌, ◌*◌, Bool, ◌&&◌, List, ltb, get_or}
-use Rattle.words.specs.Answer.{if◌then◌else◌}
+use Rattle.std.specs.Prelude.{ℕ, ◌+◌, ◌*◌, Bool, ◌&&◌, List, ltb, get_or, if◌then◌else◌}
 use Rattle.words.specs.Numbers.{no_word, flag_missing}
 use Rattle.references.specs.declared.flag.Flag.{Flag}
 use Rattle.references.specs.Flag.{has}

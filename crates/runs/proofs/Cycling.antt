@@ -1,4 +1,5 @@
 -- A run as a local run, then an ending or a crossing to go on from.
+use Rattle.std.specs.Prelude.{if◌then◌else◌}
 use Prim.Native.Nat.{ℕ, zero, suc, ◌+◌, ◌-◌, ◌<◌, ◌≤◌}
 use native.Mathlib.Omega.{arith}
 use mathlib.Core.Bool.{Bool, true, false}
@@ -7,7 +8,7 @@ use mathlib.Core.Path.{◌≡◌, refl, sym, ap, ◌∙◌}
 use borrow.Author.Tests.{le-leb}
 use lib.Dec.{eqb, leb}
 use lib.ListN.{length, get_or, set}
-use Rattle.words.specs.Answer.{Answer, refuse, ok, ◌>>=◌, if◌then◌else◌}
+use Rattle.words.specs.Answer.{Answer, refuse, ok, ◌>>=◌}
 use Rattle.words.specs.declared.pointer.Pointer.{Pointer}
 use Rattle.state.specs.declared.record.Frame.{Frame}
 use Rattle.state.specs.declared.record.Register.{Register}

@@ -1,4 +1,5 @@
 -- Laws of formats, each way to make one proved once: a value is read back from its bytes, and proper bytes are those of the value that they hold.
+use Rattle.std.specs.Prelude.{if◌then◌else◌}
 use Prim.Native.Nat.{ℕ, zero, suc, ◌+◌, ◌*◌, ◌-◌, ◌/◌, ◌%◌, ◌<◌, ◌≤◌, min}
 use native.Mathlib.Omega.{arith}
 use native.Mathlib.Nat.{add-zero, zero-mul, suc-mul, add_comm, add-mul, mul-le-mul_right, le_of_suc-le-suc}
@@ -10,7 +11,6 @@ use borrow.Author.Tests.{eq-eqb, ne_eqb, eqb-true, leb-true, le-leb, lt-ltb, ltb
 use lib.Dec.{eqb, leb, ltb}
 use lib.ListN.{length, get_or, take, drop, replicate, length-append, length-take, length-replicate, get_or-append}
 use lib.Seq.{take-add, drop-drop, drop-cons, ext_get_or, length-take-le, get_or-append-add, get_or-take}
-use Rattle.words.specs.Answer.{if◌then◌else◌}
 use Rattle.words.specs.Bit.{bit}
 use Rattle.layout_soundness.specs.SoundLayout.{all_from}
 use Rattle.layout_soundness.proofs.Tests.{both, join}

@@ -1,6 +1,5 @@
 -- Formats: values in a fixed number of bytes. Each is described once, for what is written, what is read and what is refused.
-use Rattle.std.specs.Prelude.{ℕ, ◌+◌, ◌*◌, ◌-◌, ◌/◌, ◌%◌, Bool, true, ◌&&◌, List, [], ◌∷◌, ◌++◌, eqb, leb, ltb, get_or, take, replicate}
-use Rattle.words.specs.Answer.{if◌then◌else◌}
+use Rattle.std.specs.Prelude.{ℕ, ◌+◌, ◌*◌, ◌-◌, ◌/◌, ◌%◌, Bool, true, ◌&&◌, List, [], ◌∷◌, ◌++◌, eqb, leb, ltb, get_or, take, replicate, if◌then◌else◌}
 use Rattle.words.specs.Bit.{bit}
 use Rattle.image_format.specs.Bytes.{joined}
 use Rattle.layout_soundness.specs.SoundLayout.{all_from}

@@ -1,6 +1,6 @@
 -- The machine record as 1,079 bytes: the fields of its structs in their order, the frames and a frame's capabilities after their number.
-use Rattle.std.specs.Prelude.{ℕ, Bool, ◌&&◌, List, ◌++◌, leb, ltb, length, drop}
-use Rattle.words.specs.Answer.{Answer, ok, ◌>>◌, require, if◌then◌else◌}
+use Rattle.std.specs.Prelude.{ℕ, Bool, ◌&&◌, List, ◌++◌, leb, ltb, length, drop, if◌then◌else◌}
+use Rattle.words.specs.Answer.{Answer, ok, ◌>>◌, require}
 use Rattle.words.specs.Numbers.{output_too_short, not_sound}
 use Rattle.words.specs.declared.pointer.Pointer.{Pointer}
 use Rattle.state.specs.declared.record.Capability.{Capability}

@@ -1,4 +1,5 @@
 -- Loops that test each byte, loops that set the rows in use, and which bytes of a record are looked at.
+use Rattle.std.specs.Prelude.{if◌then◌else◌}
 use Prim.Native.Nat.{ℕ, ◌+◌, ◌<◌, ◌≤◌, min}
 use native.Mathlib.Omega.{arith}
 use native.Mathlib.Decide.{ℕ_discrete, dec_lt}
@@ -10,7 +11,7 @@ use borrow.Author.Tests.{le-leb, lt-ltb, le-ltb, eq-eqb, ne_eqb}
 use lib.Dec.{eqb, ltb}
 use lib.ListN.{length, get_or, set, replicate, length-replicate, get_or-replicate}
 use lib.Seq.{get_or-set_other}
-use Rattle.words.specs.Answer.{if◌then◌else◌, require, number_of}
+use Rattle.words.specs.Answer.{require, number_of}
 use Rattle.words.specs.Numbers.{not_sound}
 use Rattle.layout_soundness.specs.SoundLayout.{all_from}
 use Rattle.layout_soundness.proofs.All.{one_more}

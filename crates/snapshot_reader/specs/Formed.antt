@@ -1,6 +1,6 @@
 -- The record in bytes of any number.
-use Rattle.std.specs.Prelude.{ℕ, List, leb, length}
-use Rattle.words.specs.Answer.{Answer, ◌>>◌, require, if◌then◌else◌}
+use Rattle.std.specs.Prelude.{ℕ, List, leb, length, if◌then◌else◌}
+use Rattle.words.specs.Answer.{Answer, ◌>>◌, require}
 use Rattle.words.specs.Numbers.{output_too_short, not_sound}
 use Rattle.state.specs.declared.record.Machine.{Machine}
 use Rattle.fresh.specs.Fresh.{fresh_of, empty_layout}

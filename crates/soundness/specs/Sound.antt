@@ -1,6 +1,5 @@
 -- When a machine record is sound (well-formed): every number is in its range, whatever is named exists, no gate is dead, unused rows are zero, and the registers of recent capabilities fit the frames.
-use Rattle.std.specs.Prelude.{ℕ, ◌+◌, Bool, not, ◌&&◌, ◌||◌, List, ltb, leb, eqb, get_or}
-use Rattle.words.specs.Answer.{if◌then◌else◌}
+use Rattle.std.specs.Prelude.{ℕ, ◌+◌, Bool, not, ◌&&◌, ◌||◌, List, ltb, leb, eqb, get_or, if◌then◌else◌}
 use Rattle.words.specs.declared.pointer.Pointer.{Pointer}
 use Rattle.state.specs.declared.record.Capability.{Capability}
 use Rattle.state.specs.declared.record.Frame.{Frame}

@@ -1,6 +1,5 @@
 // When frames are sound.
-ghost use Rattle.std.specs.Prelude.{◌≡◌, ltb};
-ghost use Rattle.words.specs.Answer.{if◌then◌else◌};
+ghost use Rattle.std.specs.Prelude.{◌≡◌, ltb, if◌then◌else◌};
 ghost use Rattle.soundness.specs.Sound.{empty_frame, frame_test, frames_test};
 
 use crate::registers::{pointer_empty, pointer_sound};

@@ -1,6 +1,5 @@
 // When the capabilities of a frame are sound.
-ghost use Rattle.std.specs.Prelude.{◌≡◌, ◌||◌, ltb, get_or};
-ghost use Rattle.words.specs.Answer.{if◌then◌else◌};
+ghost use Rattle.std.specs.Prelude.{◌≡◌, ◌||◌, ltb, get_or, if◌then◌else◌};
 ghost use Rattle.state.specs.Record.{no_capability};
 ghost use Rattle.layout_soundness.specs.SoundLayout.{all_from};
 ghost use Rattle.soundness.specs.Sound.{capability_test, empty_capability};

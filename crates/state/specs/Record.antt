@@ -1,6 +1,5 @@
 -- Rows that hold nothing, and parts of a record.
-use Rattle.std.specs.Prelude.{ℕ, ◌-◌, false, List, [], leb, ltb, get_or, replicate}
-use Rattle.words.specs.Answer.{if◌then◌else◌}
+use Rattle.std.specs.Prelude.{ℕ, ◌-◌, false, List, [], leb, ltb, get_or, replicate, if◌then◌else◌}
 use Rattle.words.specs.declared.pointer.Pointer.{Pointer}
 use Rattle.state.specs.declared.record.Capability.{Capability}
 use Rattle.state.specs.declared.record.Frame.{Frame}

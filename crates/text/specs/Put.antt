@@ -1,6 +1,5 @@
 -- Bytes put into an output where they have room.
-use Rattle.std.specs.Prelude.{ℕ, ◌+◌, Bool, List, leb, length, replicate}
-use Rattle.words.specs.Answer.{if◌then◌else◌}
+use Rattle.std.specs.Prelude.{ℕ, ◌+◌, Bool, List, leb, length, replicate, if◌then◌else◌}
 use Rattle.image_format.specs.Output.{written}
 
 -- they end within the output

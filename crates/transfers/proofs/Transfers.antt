@@ -1,4 +1,5 @@
 -- A call's way, by the numbers of two static checks.
+use Rattle.std.specs.Prelude.{if◌then◌else◌}
 use Prim.Native.Nat.{ℕ, ◌<◌, ◌≤◌}
 use native.Mathlib.Omega.{arith}
 use mathlib.Core.Bool.{Bool, true, false, not}
@@ -6,7 +7,7 @@ use mathlib.Core.List.{List}
 use mathlib.Core.Path.{◌≡◌, refl, sym, ap, ◌∙◌}
 use borrow.Author.Tests.{lt-ltb, le-ltb}
 use lib.Dec.{ltb}
-use Rattle.words.specs.Answer.{Answer, refuse, ok, ◌>>◌, require, if◌then◌else◌}
+use Rattle.words.specs.Answer.{Answer, refuse, ok, ◌>>◌, require}
 use Rattle.words.specs.declared.pointer.Pointer.{Pointer}
 use Rattle.references.specs.declared.flag.Flag.TheVariants as flag
 use Rattle.references.specs.Flag.{has}

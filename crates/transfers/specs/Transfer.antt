@@ -1,6 +1,6 @@
 -- The checks of jumps and calls.
-use Rattle.std.specs.Prelude.{ℕ, Bool, true, false, not, List, ltb}
-use Rattle.words.specs.Answer.{Answer, refuse, ok, ◌>>◌, require, if◌then◌else◌}
+use Rattle.std.specs.Prelude.{ℕ, Bool, true, false, not, List, ltb, if◌then◌else◌}
+use Rattle.words.specs.Answer.{Answer, refuse, ok, ◌>>◌, require}
 use Rattle.words.specs.Numbers.{no_word, flag_missing, tagged_transfer, not_gate, no_free_frame}
 use Rattle.words.specs.declared.pointer.Pointer.{Pointer}
 use Rattle.references.specs.declared.flag.Flag.TheVariants as flag

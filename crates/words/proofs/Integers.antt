@@ -1,9 +1,10 @@
 -- Integers at the limits of a word number.
+use Rattle.std.specs.Prelude.{if◌then◌else◌}
 use Rattle.std.proofs.Common.{◌≡◌, ℕ, suc, ◌+◌, ◌-◌, ◌%◌, ◌^◌, ◌<◌, ◌≤◌, Bool, true, false, T, ltb, ℤ, pos, negsuc, ◌+ℤ◌, nat_abs, sym, refl, ap, mod-eq_of_lt, arith, ltb-false, ltb-true, le-ltb, lt-ltb, le-leb}
 use borrow.Author.Tests.{lt-leb}
 use lib.IntN.{sub_ℕ}
 use lib.Signed.{mag, lt_z, non_neg}
-use Rattle.words.specs.Answer.{refuse, ok, if◌then◌else◌}
+use Rattle.words.specs.Answer.{refuse, ok}
 use Rattle.words.specs.Offset.{in_range, displaced_of, literal_of}
 
 pub never : {A : Type 0} → false ≡ true → A

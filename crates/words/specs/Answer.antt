@@ -17,11 +17,6 @@ ok a >> b = b
 
 infixl 10 ◌>>=◌
 infixl 10 ◌>>◌
-abbrev pub if◌then◌else◌ : {A : Type 0} → Bool → A → A → A
-if true then a else b = a
-if false then a else b = b
-
-infix 5 if◌then◌else◌
 -- the refusal n, unless the test holds
 abbrev pub require : Bool → ℕ → Answer (Unit {0})
 require true n = ok tt

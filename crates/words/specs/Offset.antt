@@ -1,6 +1,6 @@
 -- Signed offsets, and word numbers that they are added to.
-use Rattle.std.specs.Prelude.{ℕ, ◌-◌, ◌%◌, ◌^◌, ℤ, pos, negsuc, ◌+ℤ◌, ◌-ℤ◌, nat_le, nat_lt}
-use Rattle.words.specs.Answer.{Answer, refuse, ok, if◌then◌else◌}
+use Rattle.std.specs.Prelude.{ℕ, ◌-◌, ◌%◌, ◌^◌, ℤ, pos, negsuc, ◌+ℤ◌, ◌-ℤ◌, nat_le, nat_lt, if◌then◌else◌}
+use Rattle.words.specs.Answer.{Answer, refuse, ok}
 use Rattle.words.specs.Numbers.{out_of_range}
 use Rattle.words.specs.declared.offset.WordNumberAnswer.{WordNumberAnswer}
 use Rattle.words.specs.declared.offset.WordNumberAnswer.TheVariants as variant

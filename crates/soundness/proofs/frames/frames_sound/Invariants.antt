@@ -1,8 +1,8 @@
 -- `soundness::frames::frames_sound` meets its contract.
+use Rattle.std.specs.Prelude.{if◌then◌else◌}
 use Prim.Native.Nat.{◌-◌}
 use lib.Dec.{ltb}
 use lib.ListN.{get_or}
-use Rattle.words.specs.Answer.{if◌then◌else◌}
 use Rattle.state.specs.Record.{no_frame}
 use Rattle.soundness.specs.Sound.{frame_test, empty_frame}
 use Rattle.layout_soundness.proofs.All.{Left}
