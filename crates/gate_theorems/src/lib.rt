@@ -1,4 +1,3 @@
 // What holds of gates, by their definitions: proofs/. There is no code here.
 
 #![tactic(auto)]
-
