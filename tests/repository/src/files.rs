@@ -57,6 +57,7 @@ pub fn crate_names(list: &str) -> Vec<String> {
     names.map(str::to_string).collect()
 }
 
+/// The crates of the repository.
 pub fn crates() -> Vec<String> {
     crate_names(&read("crates.txt").text)
 }
