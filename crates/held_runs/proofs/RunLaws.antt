@@ -3,10 +3,8 @@ use Rattle.std.specs.Prelude.{if◌then◌else◌}
 use Prim.Native.Nat.{ℕ, ◌+◌, ◌*◌}
 use native.Mathlib.Omega.{arith}
 use mathlib.Core.Bool.{Bool, false}
-use mathlib.Core.List.{List, [], ◌∷◌}
-use mathlib.Core.Logic.{⊎_elim}
+use mathlib.Core.List.{List}
 use mathlib.Core.Path.{◌≡◌, refl, ap, ◌∙◌}
-use types.Run.{OneOf}
 use borrow.Author.Tests.{ne_eqb}
 use lib.Dec.{eqb}
 use Rattle.words.specs.Answer.{Answer, refuse, ok}
@@ -45,10 +43,6 @@ module _ (call : Machine → List ℕ → Ran) (bytes words : List ℕ) where
   pub run-ended : (m : Machine) (o : Outcome) (code : ℕ) (after memory : List ℕ) → opened bytes ≡ ok m → ran_answer o memory ≡ call m words
       → code ≡ end_code (end_answer o.end) + o.count → after ≡ ended_bytes bytes o.machine (end_answer o.end) → Ends code after memory
   run-ended m o code after memory e q c k = rw (c, k) (ended m (ran_answer o memory) e q)
-
--- the other endings are no refusal
-pub another : OneOf (0 ∷ 1 ∷ 2 ∷ 3 ∷ []) 4 → ⊥
-another k = ⊎_elim (λ e. omega (arith, e)) (⊎_elim (λ e. omega (arith, e)) (⊎_elim (λ e. omega (arith, e)) (λ e. omega (arith, e)))) k
 
 -- what a run puts stands there where it was not refused
 pub put : {A : Type 0} (before after : A) (e : End) → ((n : ℕ) → e ≡ end.Refused n → ⊥) → ended_with before after (end_answer e) ≡ after

@@ -2,16 +2,9 @@
 use borrow.Author.Tests.{lt-ltb, le-ltb}
 use Prim.Native.Nat.{◌+◌, ◌-◌, ◌<◌, ◌≤◌}
 use native.Mathlib.Omega.{arith}
-use mathlib.Core.List.{[], ◌∷◌}
-use mathlib.Core.Logic.{⊎_elim}
 use mathlib.Core.Path.{sym}
-use types.Run.{OneOf}
 use Rattle.crossing_log.proofs.TurnLaws.{starts, counted, same_after, ends, some, fits, called_on, returned-on}
 use Rattle.crossing_log.proofs.stretches.follow.Goals as goal
-
--- the default arm is not that of Crossed
-another : OneOf (0 ∷ 1 ∷ 2 ∷ 4 ∷ []) 3 → ⊥
-another k = ⊎_elim (λ e. omega (arith, e)) (⊎_elim (λ e. omega (arith, e)) (⊎_elim (λ e. omega (arith, e)) (λ e. omega (arith, e)))) k
 
 pub overflow_add-n : goal.overflow_add-n
 overflow_add-n c =
