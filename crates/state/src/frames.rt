@@ -9,24 +9,10 @@ use words::pointer::Pointer;
 pub fn free_frame() -> Frame
     ensures { result ≡ free_frame }
 {
-    let none = Capability {
-        word: 0,
-        length: 0,
-        segment: 0,
-        source: 0,
-        read: false,
-        write: false,
-    };
-    let nowhere = Pointer {
-        word: 0,
-        segment: 0,
-        tag: false,
-    };
-    let capabilities = [none; 9];
     Frame {
-        capabilities,
-        s: nowhere,
-        back: nowhere,
+        capabilities: [Capability::NONE; 9],
+        s: Pointer::NOWHERE,
+        back: Pointer::NOWHERE,
         count: 0,
         domain: 0,
     }

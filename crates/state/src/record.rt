@@ -25,7 +25,7 @@ pub struct Layout {
 }
 
 // An argument's words, the flags given on them, and the domain whose static rights stand behind them. 8 bytes.
-#[derive(Clone, Copy)]
+#[derive(Clone, Copy, PartialEq, Eq)]
 pub struct Capability {
     pub word: u16,
     pub length: u16,
@@ -33,6 +33,18 @@ pub struct Capability {
     pub source: u8,
     pub read: bool,
     pub write: bool,
+}
+
+impl Capability {
+    // What an unused row holds.
+    pub const NONE: Capability = Capability {
+        word: 0,
+        length: 0,
+        segment: 0,
+        source: 0,
+        read: false,
+        write: false,
+    };
 }
 
 // A call through a gate (a dynamic access stack frame): its capabilities, register s and the return location, and the calling domain. 82 bytes.

@@ -13,19 +13,17 @@ loop-i-init c =
       most = search rules;
       room = refl;
       values = λ k h. let z : k ≡ 0 = omega arith in rw z (sym (base-zero _));
-      small = λ k h. let z : k ≡ 0 = omega arith in rw (z, base-zero c.args.lengths.now) (omega arith);
+      small = λ k h. let z : k ≡ 0 = omega arith in rw (z, base-zero c.as_slice-lengths.result.now) (omega arith);
     }
 
 pub overflow_add-sums : goal.overflow_add-sums
 overflow_add-sums c =
-    let l = c.before.before.before in
-    let p : l.loop-i.i - 1 < l.loop-i.i = omega (arith, l.loop-i.invariant.some) in
-    omega (arith, l.loop-i.invariant.values _ p, l.loop-i.invariant.small _ p, l.loop-i.invariant.most, c.wide.ensures.1)
+    let p : c.loop-i.i - 1 < c.loop-i.i = omega arith in
+    omega (arith, c.loop-i.invariant.values _ p, c.loop-i.invariant.small _ p, c.type_inv.lengths (c.loop-i.i - 1))
 
 pub loop-i-preserved : goal.loop-i-preserved
 loop-i-preserved c =
-    let l = c.before.before.before in
-    found-next _ _ _ _ _ l.loop-i.invariant c.before.before.loop-i-test.true refl c.wide.ensures.0 c.wide.ensures.1
+    found-next _ _ _ _ _ c.loop-i.invariant c.loop-i-test.true refl refl (omega (arith, c.type_inv.lengths (c.loop-i.i - 1)))
 
 pub returns : goal.returns
-returns c = found_all _ _ _ c.loop-i-test.false c.before.loop-i.invariant
+returns c = rw (← c.as_slice-lengths.ensures) (found_all _ _ _ c.loop-i-test.false c.loop-i.invariant)

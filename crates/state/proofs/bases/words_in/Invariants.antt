@@ -1,11 +1,7 @@
 -- `state::bases::words_in` meets its contract.
-use Prim.Native.Nat.{◌*◌, ◌-◌, ◌≤◌}
-use mathlib.Core.Path.{◌≡◌}
+use Rattle.std.proofs.Common.{◌≡◌, ◌*◌, ◌≤◌}
 use Rattle.state.specs.Bases.{base_of}
 use Rattle.state.proofs.bases.words_in.Given as goal
 
-abbrev pub invariant-loop-i : goal.invariant-loop-i
-invariant-loop-i l = (l.i ≤ 16) × (l.sum ≡ base_of l.lengths l.i) × (l.sum ≤ 65536 * l.i)
-
-abbrev pub decreases-loop-i : goal.decreases-loop-i
-decreases-loop-i l = 16 - l.i
+abbrev pub invariant-loop-length : goal.invariant-loop-length
+invariant-loop-length l = (l.sum ≡ base_of l.fn.lengths l.length-index) × (l.sum ≤ 65536 * l.length-index)
