@@ -1,12 +1,10 @@
 -- Instruction words: bits 0-11 offset, 12-14 base register, 15 indirect, 16-18 register operand, 19-23 zero, 24-31 opcode.
 use Rattle.std.specs.Prelude.{ℕ, List, [], ◌∷◌, ◌==◌, nat_le, slice_index}
-use Rattle.words.specs.Answer.{Answer, refuse, ok, ◌>>◌, require}
+use Rattle.words.specs.Answer.{Answer, ok, ◌>>◌, require}
 use Rattle.words.specs.Numbers.{bad_instruction}
 use Rattle.words.specs.Field.{field, common}
 use Rattle.words.specs.Offset.{signed_of}
 use Rattle.words.specs.declared.instruction.Instruction.{Instruction}
-use Rattle.words.specs.declared.instruction.InstructionAnswer.{InstructionAnswer}
-use Rattle.words.specs.declared.instruction.InstructionAnswer.TheVariants as variant
 
 -- each opcode's zero mask, HALT LOAD STORE ADD SUB EPP SPP JUMP CALL RET JZ JM LIT
 abbrev pub masks : List ℕ
@@ -26,8 +24,3 @@ instruction_of w =
       base = field 12 3 w;
       indirect = (field 15 1 w == 1);
     })
-
--- what the code's answer stands for
-abbrev pub instruction_answer : InstructionAnswer → Answer Instruction
-instruction_answer (variant.Instruction i) = ok i
-instruction_answer (variant.Refused n) = refuse n

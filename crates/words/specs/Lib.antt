@@ -9,3 +9,4 @@ pub mod InstructionWord
 pub mod ModeWord
 pub mod Statements
 pub mod Private
+pub mod Refusal

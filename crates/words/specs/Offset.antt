@@ -2,8 +2,6 @@
 use Rattle.std.specs.Prelude.{ℕ, ◌-◌, ◌%◌, ◌^◌, ℤ, pos, negsuc, ◌+ℤ◌, ◌-ℤ◌, nat_le, nat_lt, if◌then◌else◌}
 use Rattle.words.specs.Answer.{Answer, refuse, ok}
 use Rattle.words.specs.Numbers.{out_of_range}
-use Rattle.words.specs.declared.offset.WordNumberAnswer.{WordNumberAnswer}
-use Rattle.words.specs.declared.offset.WordNumberAnswer.TheVariants as variant
 
 -- twelve bits in two's complement
 unfoldable pub signed_of : ℕ → ℤ
@@ -22,8 +20,3 @@ displaced_of word offset = in_range (pos word +ℤ offset)
 unfoldable pub literal_of : ℤ → ℕ
 literal_of (pos n) = n % 2 ^ 32
 literal_of (negsuc n) = 2 ^ 32 - 1 - n % 2 ^ 32
-
--- what the code's answer stands for
-abbrev pub word_number_answer : WordNumberAnswer → Answer ℕ
-word_number_answer (variant.Word n) = ok n
-word_number_answer (variant.Refused n) = refuse n

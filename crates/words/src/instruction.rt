@@ -1,10 +1,12 @@
 // Instruction words.
 ghost use Rattle.std.specs.Prelude.{◌≡◌, ◌<◌};
 ghost use Rattle.words.specs.Offset.{signed_of};
-ghost use Rattle.words.specs.InstructionWord.{instruction_of, instruction_answer};
+ghost use Rattle.words.specs.InstructionWord.{instruction_of};
+ghost use Rattle.words.specs.Refusal.{answer};
 ghost use Rattle.words.specs.Private.{HasMask};
 
 use crate::bits::bits;
+use crate::refusal::Refusal;
 
 // An instruction taken apart. 8 bytes.
 #[derive(Clone, Copy)]
@@ -16,13 +18,6 @@ pub struct Instruction {
     pub indirect: bool,
 }
 
-// What a word read as an instruction gives: the instruction, or the refusal 27.
-#[derive(Clone, Copy)]
-pub enum InstructionAnswer {
-    Instruction(Instruction),
-    Refused(u8),
-}
-
 // Twelve bits in two's complement.
 fn signed(offset: u32) -> i32
     requires { offset < 4096 }
@@ -32,14 +27,14 @@ fn signed(offset: u32) -> i32
 }
 
 // The instruction that a word holds, given its opcode's mask: the bits that must be 0.
-fn decode_under(word: u32, mask: u32) -> InstructionAnswer
+fn decode_under(word: u32, mask: u32) -> Result<Instruction, Refusal>
     requires { HasMask word mask }
-    ensures { instruction_answer result ≡ instruction_of word }
+    ensures { answer result ≡ instruction_of word }
 {
     if word & mask != 0 {
-        return InstructionAnswer::Refused(27);
+        return Err(Refusal::BadInstruction);
     }
-    InstructionAnswer::Instruction(Instruction {
+    Ok(Instruction {
         offset: signed(bits(word, 0, 12)),
         opcode: bits(word, 24, 8) as u8,
         register: bits(word, 16, 3) as u8,
@@ -49,8 +44,8 @@ fn decode_under(word: u32, mask: u32) -> InstructionAnswer
 }
 
 // The instruction that a word holds.
-pub fn decode(word: u32) -> InstructionAnswer
-    ensures { instruction_answer result ≡ instruction_of word }
+pub fn decode(word: u32) -> Result<Instruction, Refusal>
+    ensures { answer result ≡ instruction_of word }
 {
     let opcode = bits(word, 24, 8);
     match opcode {
@@ -62,6 +57,6 @@ pub fn decode(word: u32) -> InstructionAnswer
         5 | 6 => decode_under(word, 0x00F80000),
         // LIT
         12 => decode_under(word, 0x00FFF000),
-        _ => InstructionAnswer::Refused(27),
+        _ => Err(Refusal::BadInstruction),
     }
 }

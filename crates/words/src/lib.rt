@@ -8,3 +8,4 @@ pub mod instruction;
 pub mod mode;
 pub mod offset;
 pub mod pointer;
+pub mod refusal;

@@ -1,8 +1,10 @@
 // Mode words: what an argument's pointer word covers, and the flags asked for it.
 ghost use Rattle.std.specs.Prelude.{◌≡◌};
-ghost use Rattle.words.specs.ModeWord.{mode_of, mode_answer};
+ghost use Rattle.words.specs.ModeWord.{mode_of};
+ghost use Rattle.words.specs.Refusal.{answer};
 
 use crate::bits::bits;
+use crate::refusal::Refusal;
 
 // A length 1-4,096 and at least one flag. 4 bytes.
 #[derive(Clone, Copy)]
@@ -12,34 +14,27 @@ pub struct Mode {
     pub write: bool,
 }
 
-// What a word read as a mode word gives: the mode, or the refusal 30.
-#[derive(Clone, Copy)]
-pub enum ModeAnswer {
-    Mode(Mode),
-    Refused(u8),
-}
-
 // The mode that a word holds, for an argument that starts at word number `start`.
-pub fn unpack(word: u32, start: u16) -> ModeAnswer
-    ensures { mode_answer result ≡ mode_of word start }
+pub fn unpack(word: u32, start: u16) -> Result<Mode, Refusal>
+    ensures { answer result ≡ mode_of word start }
 {
     let length = bits(word, 0, 13);
     if length == 0 {
-        return ModeAnswer::Refused(30);
+        return Err(Refusal::BadArgument);
     }
     if 4096 < length {
-        return ModeAnswer::Refused(30);
+        return Err(Refusal::BadArgument);
     }
     if bits(word, 13, 17) != 0 {
-        return ModeAnswer::Refused(30);
+        return Err(Refusal::BadArgument);
     }
     if bits(word, 30, 2) == 0 {
-        return ModeAnswer::Refused(30);
+        return Err(Refusal::BadArgument);
     }
     if 4096 < start as u32 + length {
-        return ModeAnswer::Refused(30);
+        return Err(Refusal::BadArgument);
     }
-    ModeAnswer::Mode(Mode {
+    Ok(Mode {
         length: length as u16,
         read: bits(word, 30, 1) == 1,
         write: bits(word, 31, 1) == 1,

@@ -1,43 +1,39 @@
 // The signed offset of an instruction, and what is added up with it.
 ghost use Rattle.std.specs.Prelude.{◌≡◌, pos};
-ghost use Rattle.words.specs.Offset.{displaced_of, literal_of, word_number_answer};
+ghost use Rattle.words.specs.Offset.{displaced_of, literal_of};
+ghost use Rattle.words.specs.Refusal.{answer};
 
-// What a sum gives: a word number 0-4,095, or the refusal 23.
-#[derive(Clone, Copy)]
-pub enum WordNumberAnswer {
-    Word(u16),
-    Refused(u8),
-}
+use crate::refusal::Refusal;
 
 // A word number plus an offset.
-pub fn displace(word: u16, offset: i32) -> WordNumberAnswer
-    ensures { word_number_answer result ≡ displaced_of word offset }
+pub fn displace(word: u16, offset: i32) -> Result<u16, Refusal>
+    ensures { answer result ≡ displaced_of word offset }
 {
     if offset < -65535 {
-        return WordNumberAnswer::Refused(23);
+        return Err(Refusal::OutOfRange);
     }
     if 4095 < offset {
-        return WordNumberAnswer::Refused(23);
+        return Err(Refusal::OutOfRange);
     }
     let at = word as i32 + offset;
     if at < 0 {
-        return WordNumberAnswer::Refused(23);
+        return Err(Refusal::OutOfRange);
     }
     if 4095 < at {
-        return WordNumberAnswer::Refused(23);
+        return Err(Refusal::OutOfRange);
     }
-    WordNumberAnswer::Word(at as u16)
+    Ok(at as u16)
 }
 
 // A word number plus a count.
-pub fn climb(word: u16, count: u16) -> WordNumberAnswer
-    ensures { word_number_answer result ≡ displaced_of word (pos count) }
+pub fn climb(word: u16, count: u16) -> Result<u16, Refusal>
+    ensures { answer result ≡ displaced_of word (pos count) }
 {
     let sum = word as u32 + count as u32;
     if 4095 < sum {
-        return WordNumberAnswer::Refused(23);
+        return Err(Refusal::OutOfRange);
     }
-    WordNumberAnswer::Word(sum as u16)
+    Ok(sum as u16)
 }
 
 // An offset modulo 2^32.

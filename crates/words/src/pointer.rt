@@ -1,32 +1,36 @@
 // Pointers, and the words that hold them.
 ghost use Rattle.std.specs.Prelude.{◌≡◌};
-ghost use Rattle.words.specs.PointerWord.{pointer_of, pointer_word, pointer_answer};
+ghost use Rattle.words.specs.PointerWord.{pointer_of, pointer_word};
+ghost use Rattle.words.specs.Refusal.{answer};
 
 use crate::bits::bits;
+use crate::refusal::Refusal;
 
 // A tag, a segment number 0-15 and a word number 0-4,095. 4 bytes.
-#[derive(Clone, Copy)]
+#[derive(Clone, Copy, PartialEq, Eq)]
 pub struct Pointer {
     pub word: u16,
     pub segment: u8,
     pub tag: bool,
 }
 
-// What a word read as a pointer gives: the pointer, or the refusal 26.
-#[derive(Clone, Copy)]
-pub enum PointerAnswer {
-    Pointer(Pointer),
-    Refused(u8),
+impl Pointer {
+    // What an unused register or row holds: word 0 of segment 0, untagged.
+    pub const NOWHERE: Pointer = Pointer {
+        word: 0,
+        segment: 0,
+        tag: false,
+    };
 }
 
 // The pointer that a word holds.
-pub fn unpack(word: u32) -> PointerAnswer
-    ensures { pointer_answer result ≡ pointer_of word }
+pub fn unpack(word: u32) -> Result<Pointer, Refusal>
+    ensures { answer result ≡ pointer_of word }
 {
     if bits(word, 16, 15) != 0 {
-        return PointerAnswer::Refused(26);
+        return Err(Refusal::BadPointer);
     }
-    PointerAnswer::Pointer(Pointer {
+    Ok(Pointer {
         word: bits(word, 0, 12) as u16,
         segment: bits(word, 12, 4) as u8,
         tag: bits(word, 31, 1) == 1,
