@@ -10,8 +10,6 @@ use Rattle.state.specs.Record.{in_use, live_frame}
 use Rattle.references.specs.declared.flag.Flag.TheVariants as flag
 use Rattle.references.specs.declared.flag.Access.TheVariants as access
 use Rattle.references.specs.Reference.{locate_of, reference_of}
-use Rattle.memory.specs.declared.WordAnswer.{WordAnswer}
-use Rattle.memory.specs.declared.WordAnswer.TheVariants as variant
 
 -- the word at a pointer, or the number of the fault
 abbrev pub Reader : Type 0
@@ -45,8 +43,3 @@ stored words value (ok i) = set words i value
 unfoldable pub written_of : List ℕ → List ℕ → List ℕ → List ℕ → ℕ → List Register → ℕ → Frame → Pointer → ℕ → List ℕ
 written_of lengths rights bases words domain recent depth frame p value =
     stored words value (reference_of lengths rights bases domain recent depth frame access.Write p)
-
--- what the code's answer stands for
-abbrev pub word_answer : WordAnswer → Answer ℕ
-word_answer (variant.Word w) = ok w
-word_answer (variant.Refused n) = refuse n

@@ -2,24 +2,19 @@
 
 #![tactic(auto)]
 
-ghost use Rattle.std.specs.Prelude.{◌≡◌, ℕ, ◌<◌, get_or, set};
+ghost use Rattle.std.specs.Prelude.{◌≡◌, ℕ, ◌<◌, get_or, set, Ok};
+ghost use Rattle.words.specs.Refusal.{answer, status};
 ghost use Rattle.references.specs.Reference.{verdict_of};
 ghost use Rattle.references.specs.declared.flag.Access.TheVariants as access;
 ghost use Rattle.lent_registers.specs.Columns.{registers_of};
-ghost use Rattle.memory.specs.Reader.{read_of, fetch_of, written_of, word_answer};
-ghost use Rattle.state.specs.Record.{of_segment};
+ghost use Rattle.memory.specs.Reader.{read_of, fetch_of, written_of};
 
 use references::flag::{Access, Flag};
-use references::reference::{IndexAnswer, locate, reference};
-use state::record::Frame;
+use references::reference::{locate, reference};
+use references::view::View;
+use state::rows::of_segment;
 use words::pointer::Pointer;
-
-// What a read gives: the word, or the number of the fault.
-#[derive(Clone, Copy)]
-pub enum WordAnswer {
-    Word(u32),
-    Refused(u8),
-}
+use words::refusal::Refusal;
 
 fn word_at(words: &[u32], i: usize) -> u32
     ensures { result ≡ get_or words.now i 0 }
@@ -36,99 +31,44 @@ fn put_at(words: &mut [u32], i: usize, value: u32)
 }
 
 // A word read under a pointer's tag.
-pub fn read<'a>(
-    lengths: &'a [u16; 16],
-    rights: &'a [u8; 128],
-    bases: &'a [u32; 16],
+pub fn read(
+    view: &View,
     words: &[u32],
     domain: u8,
     recent: &[u8; 160],
-    depth: u8,
-    frame: Frame,
     p: Pointer,
-) -> WordAnswer
-    ensures { word_answer result ≡ read_of lengths.now rights.now bases.now words.now domain (registers_of recent.now) depth frame p }
+) -> Result<u32, Refusal>
+    ensures { answer result ≡ read_of view.now.layout.lengths view.now.layout.rights view.now.bases words.now domain (registers_of recent.now) view.now.depth view.now.frame p }
 {
-    match reference(
-        lengths,
-        rights,
-        bases,
-        domain,
-        recent,
-        depth,
-        frame,
-        Access::Read,
-        p,
-    ) {
-        IndexAnswer::Refused(n) => WordAnswer::Refused(n),
-        IndexAnswer::At(i) => WordAnswer::Word(word_at(words, i)),
-    }
+    let i = reference(view, domain, recent, Access::Read, p)?;
+    Ok(word_at(words, i))
 }
 
-// A word stored under a pointer's tag: 0, or the number of the fault.
-pub fn write<'a>(
-    lengths: &'a [u16; 16],
-    rights: &'a [u8; 128],
-    bases: &'a [u32; 16],
+// A word stored under a pointer's tag.
+pub fn write(
+    view: &View,
     words: &mut [u32],
     domain: u8,
     recent: &[u8; 160],
-    depth: u8,
-    frame: Frame,
     p: Pointer,
     value: u32,
-) -> u8
-    ensures value { result ≡ verdict_of lengths.now rights.now domain (registers_of recent.now) depth frame access.Write p }
-    ensures words_after { words.new ≡ written_of lengths.now rights.now bases.now words.old domain (registers_of recent.now) depth frame p value }
+) -> Result<(), Refusal>
+    ensures value { status result ≡ verdict_of view.now.layout.lengths view.now.layout.rights domain (registers_of recent.now) view.now.depth view.now.frame access.Write p }
+    ensures words_after { words.new ≡ written_of view.now.layout.lengths view.now.layout.rights view.now.bases words.old domain (registers_of recent.now) view.now.depth view.now.frame p value }
 {
-    match reference(
-        lengths,
-        rights,
-        bases,
-        domain,
-        recent,
-        depth,
-        frame,
-        Access::Write,
-        p,
-    ) {
-        IndexAnswer::Refused(n) => n,
-        IndexAnswer::At(i) => {
-            put_at(words, i, value);
-            0
-        }
-    }
-}
-
-// The length of a segment; 0 past the sixteenth.
-fn length_of(lengths: &[u16; 16], segment: u8) -> u16
-    ensures { result ≡ of_segment lengths.now segment }
-{
-    if 16 <= segment {
-        return 0;
-    }
-    let i = segment as usize;
-    lengths[i]
+    let i = reference(view, domain, recent, Access::Write, p)?;
+    put_at(words, i, value);
+    Ok(())
 }
 
 // The word at the location, fetched as an instruction. There is a word number after one that exists.
-pub fn fetch<'a>(
-    lengths: &'a [u16; 16],
-    rights: &'a [u8; 128],
-    bases: &'a [u32; 16],
-    words: &[u32],
-    domain: u8,
-    segment: u8,
-    word: u16,
-) -> WordAnswer
-    ensures result_value { word_answer result ≡ fetch_of lengths.now rights.now bases.now words.now domain segment word }
-    ensures by_index { (w : ℕ) → result ≡ WordAnswer.Word w → word < 65535 }
+pub fn fetch(view: &View, words: &[u32], domain: u8, segment: u8, word: u16) -> Result<u32, Refusal>
+    ensures result_value { answer result ≡ fetch_of view.now.layout.lengths view.now.layout.rights view.now.bases words.now domain segment word }
+    ensures by_index { (w : ℕ) → result ≡ Ok w → word < 65535 }
 {
-    if length_of(lengths, segment) <= word {
-        return WordAnswer::Refused(21);
+    if of_segment(&view.layout.lengths, segment) <= word {
+        return Err(Refusal::NoWord);
     }
-    match locate(lengths, rights, bases, domain, Flag::Execute, segment, word) {
-        IndexAnswer::Refused(n) => WordAnswer::Refused(n),
-        IndexAnswer::At(i) => WordAnswer::Word(word_at(words, i)),
-    }
+    let i = locate(view, domain, Flag::Execute, segment, word)?;
+    Ok(word_at(words, i))
 }

@@ -6,8 +6,6 @@ use Rattle.state.specs.declared.record.Capability.{Capability}
 use Rattle.state.specs.declared.record.Frame.{Frame}
 use Rattle.state.specs.declared.record.Register.{Register}
 use Rattle.references.specs.declared.flag.Access.{Access}
-use Rattle.references.specs.declared.live.SourceAnswer.{SourceAnswer}
-use Rattle.references.specs.declared.live.SourceAnswer.TheVariants as variant
 use Rattle.references.specs.Flag.{flag_of, is_read}
 use Rattle.references.specs.Static.{static_of}
 use Rattle.capabilities.specs.Search.{covers_of, first_of}
@@ -39,8 +37,3 @@ live_through lengths rights recent depth frame access segment word =
 unfoldable pub passed_of : ℕ → Frame → ℕ → ℕ → ℕ → Bool → Bool → Answer ℕ
 passed_of depth frame segment word length read write =
     live_match depth frame (covers_of segment word length read write) >>= (λ c. ok c.source)
-
--- what the code's answer stands for
-abbrev pub source_answer : SourceAnswer → Answer ℕ
-source_answer (variant.Source d) = ok d
-source_answer (variant.Refused n) = refuse n

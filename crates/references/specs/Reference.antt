@@ -6,8 +6,6 @@ use Rattle.state.specs.declared.record.Frame.{Frame}
 use Rattle.state.specs.declared.record.Register.{Register}
 use Rattle.references.specs.declared.flag.Flag.{Flag}
 use Rattle.references.specs.declared.flag.Access.{Access}
-use Rattle.references.specs.declared.reference.IndexAnswer.{IndexAnswer}
-use Rattle.references.specs.declared.reference.IndexAnswer.TheVariants as variant
 use Rattle.references.specs.Flag.{flag_of}
 use Rattle.references.specs.Static.{static_of}
 use Rattle.references.specs.Live.{live_through}
@@ -37,8 +35,3 @@ live_reference_of lengths rights bases recent depth frame access segment word = 
 -- the index of a word that passes the check of a reference
 unfoldable pub reference_of : List ℕ → List ℕ → List ℕ → ℕ → List Register → ℕ → Frame → Access → Pointer → Answer ℕ
 reference_of lengths rights bases domain recent depth frame access p = accept (verdict_of lengths rights domain recent depth frame access p) (index_of bases p.segment p.word)
-
--- what the code's answer stands for
-abbrev pub index_answer : IndexAnswer → Answer ℕ
-index_answer (variant.At i) = ok i
-index_answer (variant.Refused n) = refuse n

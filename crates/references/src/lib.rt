@@ -7,3 +7,4 @@ pub mod live;
 pub mod reference;
 pub mod renewal;
 pub mod statics;
+pub mod view;

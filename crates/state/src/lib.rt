@@ -5,3 +5,4 @@
 pub mod bases;
 pub mod frames;
 pub mod record;
+pub mod rows;

@@ -28,22 +28,17 @@ inside true true g w d n = refl
 inside true false g w d n = absurd (omega arith)
 inside false e g w d n = absurd (omega arith)
 
-absent : (x e g w d : Bool) → number x e ≡ 21 → way x e g w d ≡ refuse 21
-absent true true g w d n = absurd (omega arith)
-absent true false g w d n = absurd (omega arith)
-absent false e g w d n = refl
+refused : (x e g w d : Bool) → (number x e ≡ 0 → ⊥) → (number x g ≡ 0 → ⊥) → way x e g w d ≡ refuse (number x g)
+refused true true g w d n₀ m = absurd (n₀ refl)
+refused true false true w d n₀ m = absurd (m refl)
+refused true false false w d n₀ m = refl
+refused false e g w d n₀ m = refl
 
-barred : (x e g w d : Bool) → (number x e ≡ 0 → ⊥) → (number x e ≡ 21 → ⊥) → (number x g ≡ 0 → ⊥) → way x e g w d ≡ refuse 22
-barred true true g w d n₀ n₁ m = absurd (n₀ refl)
-barred true false true w d n₀ n₁ m = absurd (m refl)
-barred true false false w d n₀ n₁ m = refl
-barred false e g w d n₀ n₁ m = absurd (n₁ refl)
-
-open-gate : (x e g w d : Bool) → (number x e ≡ 0 → ⊥) → (number x e ≡ 21 → ⊥) → number x g ≡ 0 → way x e g w d ≡ (require w 29 >> require d 31 >> ok false)
-open-gate true true g w d n₀ n₁ m = absurd (n₀ refl)
-open-gate true false true w d n₀ n₁ m = refl
-open-gate true false false w d n₀ n₁ m = absurd (omega arith)
-open-gate false e g w d n₀ n₁ m = absurd (n₁ refl)
+open-gate : (x e g w d : Bool) → (number x e ≡ 0 → ⊥) → number x g ≡ 0 → way x e g w d ≡ (require w 29 >> require d 31 >> ok false)
+open-gate true true g w d n₀ m = absurd (n₀ refl)
+open-gate true false true w d n₀ m = refl
+open-gate true false false w d n₀ m = absurd (omega arith)
+open-gate false e g w d n₀ m = absurd (omega arith)
 
 module _ (lengths gates rights : List ℕ) (domain depth : ℕ) (p : Pointer) where
   abbrev E : ℕ
@@ -76,15 +71,11 @@ module _ (lengths gates rights : List ℕ) (domain depth : ℕ) (p : Pointer) wh
     unfolding call_way static_of
     way-inside n = rw t (inside x e g w d n)
 
-    pub way-absent : E ≡ 21 → call_way lengths gates rights domain depth p ≡ refuse 21
-    unfolding call_way static_of
-    way-absent n = rw t (absent x e g w d n)
-
-    module _ (e₀ : E ≡ 0 → ⊥) (e₁ : E ≡ 21 → ⊥) where
-      pub way-barred : (G ≡ 0 → ⊥) → call_way lengths gates rights domain depth p ≡ refuse 22
+    module _ (e₀ : E ≡ 0 → ⊥) where
+      pub way-refused : (G ≡ 0 → ⊥) → call_way lengths gates rights domain depth p ≡ refuse G
       unfolding call_way static_of
-      way-barred m = rw t (barred x e g w d e₀ e₁ m)
+      way-refused m = rw t (refused x e g w d e₀ m)
 
       pub way-gate : G ≡ 0 → call_way lengths gates rights domain depth p ≡ (require (ltb p.word (of_segment gates p.segment)) 29 >> require (ltb depth 8) 31 >> ok false)
       unfolding call_way static_of
-      way-gate m = rw t (open-gate x e g w d e₀ e₁ m)
+      way-gate m = rw t (open-gate x e g w d e₀ m)

@@ -1,13 +1,15 @@
 -- The checks of jumps and calls.
-use Rattle.std.specs.Prelude.{ℕ, Bool, true, false, not, List, ltb, if◌then◌else◌}
+use Rattle.std.specs.Prelude.{ℕ, Bool, true, false, not, List, ltb, if◌then◌else◌, Result, Ok, Err}
 use Rattle.words.specs.Answer.{Answer, refuse, ok, ◌>>◌, require}
 use Rattle.words.specs.Numbers.{no_word, flag_missing, tagged_transfer, not_gate, no_free_frame}
 use Rattle.words.specs.declared.pointer.Pointer.{Pointer}
 use Rattle.references.specs.declared.flag.Flag.TheVariants as flag
 use Rattle.references.specs.Flag.{has}
 use Rattle.references.specs.Static.{exists, rights_of, static_of}
-use Rattle.transfers.specs.declared.CallAnswer.{CallAnswer}
-use Rattle.transfers.specs.declared.CallAnswer.TheVariants as way
+use Rattle.words.specs.Refusal.{number}
+use Rattle.words.specs.declared.refusal.Refusal.{Refusal}
+use Rattle.transfers.specs.declared.Way.{Way}
+use Rattle.transfers.specs.declared.Way.TheVariants as way
 use Rattle.state.specs.Record.{of_segment}
 
 -- a jump's checks, an untagged pointer, then static E: 0, or the number of the fault
@@ -26,8 +28,8 @@ call_way lengths gates rights domain depth p =
     require (ltb depth 8) no_free_frame >>
     ok false))
 
--- what the code's answer stands for: true inside the domain, false through a gate
-abbrev pub call_answer : CallAnswer → Answer Bool
-call_answer way.Inside = ok true
-call_answer way.Gate = ok false
-call_answer (way.Refused n) = refuse n
+-- what the code's result stands for: true inside the domain, false through a gate
+abbrev pub call_answer : Result Way Refusal → Answer Bool
+call_answer (Ok way.Inside) = ok true
+call_answer (Ok way.Gate) = ok false
+call_answer (Err r) = refuse (number r)

@@ -3,71 +3,50 @@
 #![tactic(auto)]
 
 ghost use Rattle.std.specs.Prelude.{◌≡◌};
+ghost use Rattle.words.specs.Refusal.{status};
 ghost use Rattle.transfers.specs.Transfer.{jump_check, call_way, call_answer};
-ghost use Rattle.state.specs.Record.{of_segment};
 
 use references::flag::Flag;
 use references::statics::static_check;
+use state::record::Layout;
+use state::rows::of_segment;
 use words::pointer::Pointer;
+use words::refusal::Refusal;
 
-// What a call's checks give: a call inside the domain, one through a gate, or the number of the fault.
-#[derive(Clone, Copy)]
-pub enum CallAnswer {
+// A call inside the domain, or one through a gate.
+#[derive(Clone, Copy, PartialEq, Eq)]
+pub enum Way {
     Inside,
     Gate,
-    Refused(u8),
 }
 
-// 0, or the number of the fault.
-pub fn jump_check<'a>(lengths: &'a [u16; 16], rights: &'a [u8; 128], domain: u8, p: Pointer) -> u8
-    ensures { result ≡ jump_check lengths.now rights.now domain p }
+// Whether a domain may jump to a pointer.
+pub fn jump_check(layout: &Layout, domain: u8, p: Pointer) -> Result<(), Refusal>
+    ensures { status result ≡ jump_check layout.now.lengths layout.now.rights domain p }
 {
     if p.tag {
-        return 28;
+        Err(Refusal::TaggedTransfer)
+    } else {
+        static_check(layout, domain, Flag::Execute, p.segment, p.word)
     }
-    static_check(lengths, rights, domain, Flag::Execute, p.segment, p.word)
 }
 
-// The gate count of a segment; none past the sixteenth.
-fn gate_count_of(gates: &[u16; 16], segment: u8) -> u16
-    ensures { result ≡ of_segment gates.now segment }
-{
-    if 16 <= segment {
-        return 0;
-    }
-    let i = segment as usize;
-    gates[i]
-}
-
-pub fn call_way<'a>(
-    lengths: &'a [u16; 16],
-    gates: &'a [u16; 16],
-    rights: &'a [u8; 128],
-    domain: u8,
-    depth: u8,
-    p: Pointer,
-) -> CallAnswer
-    ensures { call_answer result ≡ call_way lengths.now gates.now rights.now domain depth p }
+// The way of a call to a pointer, with so many frames in use.
+pub fn call_way(layout: &Layout, domain: u8, depth: u8, p: Pointer) -> Result<Way, Refusal>
+    ensures { call_answer result ≡ call_way layout.now.lengths layout.now.gates layout.now.rights domain depth p }
 {
     if p.tag {
-        return CallAnswer::Refused(28);
+        return Err(Refusal::TaggedTransfer);
     }
-    let inside = static_check(lengths, rights, domain, Flag::Execute, p.segment, p.word);
-    if inside == 0 {
-        return CallAnswer::Inside;
+    if static_check(layout, domain, Flag::Execute, p.segment, p.word).is_ok() {
+        return Ok(Way::Inside);
     }
-    if inside == 21 {
-        return CallAnswer::Refused(21);
-    }
-    let gate = static_check(lengths, rights, domain, Flag::Gate, p.segment, p.word);
-    if gate != 0 {
-        return CallAnswer::Refused(22);
-    }
-    if gate_count_of(gates, p.segment) <= p.word {
-        return CallAnswer::Refused(29);
+    static_check(layout, domain, Flag::Gate, p.segment, p.word)?;
+    if of_segment(&layout.gates, p.segment) <= p.word {
+        return Err(Refusal::NotGate);
     }
     if 8 <= depth {
-        return CallAnswer::Refused(31);
+        return Err(Refusal::NoFreeFrame);
     }
-    CallAnswer::Gate
+    Ok(Way::Gate)
 }

@@ -3,3 +3,4 @@ pub mod Integers
 pub mod Masks
 pub mod RoundTrips
 pub mod Last
+pub mod Results

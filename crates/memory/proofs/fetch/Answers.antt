@@ -1,22 +1,29 @@
 -- `memory::fetch` meets its contract.
 use native.Mathlib.Omega.{arith}
-use mathlib.Core.Path.{sym, ap}
-use Rattle.memory.specs.Reader.{fetch_of, word_answer}
+use mathlib.Core.Path.{sym, ap, ◌∙◌}
+use Rattle.words.specs.Refusal.{answer}
+use Rattle.words.proofs.Results.{handed_on}
+use Rattle.memory.specs.Reader.{fetch_of}
 use Rattle.memory.proofs.Answers.{refuse-ok}
 use Rattle.memory.proofs.Accesses.{fetch-absent}
 use Rattle.memory.proofs.fetch.Goals as goal
 
-pub returns-then-length_of-word : goal.returns-then-length_of-word
+pub returns-then-of_segment-word : goal.returns-then-of_segment-word
 unfolding fetch_of
-returns-then-length_of-word c = record { result_value = let s = c.args in sym (fetch-absent s.lengths.now s.rights.now s.bases.now s.words.now s.domain s.segment s.word (rw c.length_of.ensures at c.if-length_of-word.true)); by_index = λ w e. refuse-ok (ap word_answer e) }
+returns-then-of_segment-word c =
+    let s = c.args in
+    record {
+      result_value = sym (fetch-absent s.view.now.layout.lengths s.view.now.layout.rights s.view.now.bases s.words.now s.domain s.segment s.word (rw c.of_segment.ensures at c.if-of_segment-word.true));
+      by_index = λ w e. refuse-ok (ap answer e);
+    }
 
-pub returns-in-Refused : goal.returns-in-Refused
+pub returns-in_err-i : goal.returns-in_err-i
 unfolding fetch_of
-returns-in-Refused c = let r = c in record { result_value = simp (← r.locate.ensures, c.in-Refused.is); by_index = λ w e. refuse-ok (ap word_answer e) }
+returns-in_err-i c =
+    let r = ap answer (handed_on c.from_residual.result _ c.from_residual.ensures.1) in
+    record { result_value = r ∙ simp (← c.in_err-i.ensures); by_index = λ w e. refuse-ok (sym r ∙ ap answer e) }
 
-pub returns-in-At : goal.returns-in-At
+pub returns : goal.returns
 unfolding fetch_of
-returns-in-At c =
-    let k = c.before.before in
-    let r = k in
-    record { result_value = simp (← r.locate.ensures, k.in-At.is, c.word_at.ensures); by_index = λ w e. omega (arith, r.if-length_of-word.false, r.length_of.type_inv) }
+returns c =
+    record { result_value = simp (← c.in_ok-i.ensures, c.word_at.ensures); by_index = λ w e. omega (arith, c.if-of_segment-word.false, c.of_segment.type_inv) }

@@ -1,11 +1,14 @@
 -- `memory::read` meets its contract.
+use mathlib.Core.Path.{ap, ◌∙◌}
+use Rattle.words.specs.Refusal.{answer}
+use Rattle.words.proofs.Results.{handed_on}
 use Rattle.memory.specs.Reader.{read_of}
 use Rattle.memory.proofs.read.Goals as goal
 
-pub returns-in-Refused : goal.returns-in-Refused
+pub returns-in_err-i : goal.returns-in_err-i
 unfolding read_of
-returns-in-Refused c = let r = c in simp (← r.reference.ensures, c.in-Refused.is)
+returns-in_err-i c = ap answer (handed_on c.from_residual.result _ c.from_residual.ensures.1) ∙ simp (← c.in_err-i.ensures)
 
-pub returns-in-At : goal.returns-in-At
+pub returns : goal.returns
 unfolding read_of
-returns-in-At c = let k = c in simp (← k.reference.ensures, k.in-At.is, c.word_at.ensures)
+returns c = simp (← c.in_ok-i.ensures, c.word_at.ensures)

@@ -1,17 +1,18 @@
 -- `memory::write` meets its contract.
 use mathlib.Core.Path.{sym, ap, ◌∙◌}
-use Rattle.references.specs.Reference.{index_answer}
+use Rattle.words.specs.Refusal.{status}
+use Rattle.words.proofs.Results.{handed_on}
 use Rattle.memory.specs.Reader.{written_of}
 use Rattle.memory.proofs.Accesses.{reference-refused, reference-passed}
 use Rattle.memory.proofs.write.Goals as goal
 
-pub returns-in-Refused : goal.returns-in-Refused
+pub returns-in_err-i : goal.returns-in_err-i
 unfolding written_of
-returns-in-Refused c =
-    let r = c in record { value = reference-refused _ _ _ _ _ _ _ _ _ _ (ap index_answer (sym c.in-Refused.is) ∙ r.reference.ensures); words_after = simp (← r.reference.ensures, c.in-Refused.is) }
+returns-in_err-i c =
+    let r = handed_on c.from_residual.result _ c.from_residual.ensures.1 in
+    record { value = ap status r ∙ reference-refused _ _ _ _ _ _ _ _ _ _ c.in_err-i.ensures; words_after = simp (← c.in_err-i.ensures) }
 
-pub returns-in-At : goal.returns-in-At
+pub returns : goal.returns
 unfolding written_of
-returns-in-At c =
-    let k = c.before.before.before.before.before in
-    let r = k in record { value = reference-passed _ _ _ _ _ _ _ _ _ _ (ap index_answer (sym k.in-At.is) ∙ r.reference.ensures); words_after = simp (← r.reference.ensures, k.in-At.is) c.put_at.ensures }
+returns c =
+    record { value = reference-passed _ _ _ _ _ _ _ _ _ _ c.in_ok-i.ensures; words_after = simp (← c.in_ok-i.ensures) c.put_at.ensures }

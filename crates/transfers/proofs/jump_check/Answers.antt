@@ -6,6 +6,6 @@ pub returns-then-p : goal.returns-then-p
 unfolding jump_check
 returns-then-p c = simp c.if-p.true
 
-pub returns : goal.returns
+pub returns-else-p : goal.returns-else-p
 unfolding jump_check
-returns c = simp c.if-p.false c.static_check.ensures
+returns-else-p c = simp c.if-p.false c.static_check.ensures

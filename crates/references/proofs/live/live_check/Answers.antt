@@ -1,26 +1,20 @@
 -- `references::live::live_check` meets its contract.
-use native.Mathlib.Nat.{mod-eq_of_lt}
-use borrow.Author.Tests.{eq-eqb, ne_eqb}
-use Rattle.references.proofs.Sources.{through-found, code-source, code-none}
+use mathlib.Core.Path.{sym, ap, ◌∙◌}
+use borrow.Author.Tests.{eq-eqb}
+use Rattle.words.specs.Refusal.{status}
+use Rattle.words.proofs.Results.{number-ne_0, handed_on}
+use Rattle.references.proofs.Sources.{through-found}
 use Rattle.references.proofs.live.live_check.Goals as goal
 
-pub returns-then-source-ge256 : goal.returns-then-source-ge256
-returns-then-source-ge256 c =
-    let s = c in
-    simp (through-found, ← s.is_read-read.ensures, ← s.found_source-source.ensures.result_value, code-none _ c.if-source-ge256.true)
+pub returns-in_err-source : goal.returns-in_err-source
+returns-in_err-source c =
+    let r = handed_on c.from_residual.result _ c.from_residual.ensures.1 in
+    ap status r ∙ simp (through-found, ← c.is_read.ensures, ← c.in_err-source.ensures)
 
-pub returns-then-static_check-eq0 : goal.returns-then-static_check-eq0
-returns-then-static_check-eq0 c =
-    let k = c in
-    let e = k in
-    let s = e in
-    let h = rw (mod-eq_of_lt e.if-source-ge256.false) at k.static_check.ensures in
-    simp (through-found, ← s.is_read-read.ensures, ← s.found_source-source.ensures.result_value, code-source _ e.if-source-ge256.false, ← k.asked.ensures, ← h, eq-eqb _ _ c.if-static_check-eq0.true)
+pub returns-in-Ok : goal.returns-in-Ok
+returns-in-Ok c =
+    simp (through-found, ← c.is_read.ensures, ← c.in_ok-source.ensures, ← c.asked.ensures, eq-eqb _ _ (sym c.in-Ok.ensures))
 
-pub returns-else-static_check-eq0 : goal.returns-else-static_check-eq0
-returns-else-static_check-eq0 c =
-    let k = c in
-    let e = k in
-    let s = e in
-    let h = rw (mod-eq_of_lt e.if-source-ge256.false) at k.static_check.ensures in
-    simp (through-found, ← s.is_read-read.ensures, ← s.found_source-source.ensures.result_value, code-source _ e.if-source-ge256.false, ← k.asked.ensures, ← h, ne_eqb _ _ c.if-static_check-eq0.false)
+pub returns-in-Err : goal.returns-in-Err
+returns-in-Err c =
+    simp (through-found, ← c.is_read.ensures, ← c.in_ok-source.ensures, ← c.asked.ensures, ← c.in-Err.ensures, number-ne_0 c.in-Err.field-0)

@@ -1,12 +1,21 @@
 -- `references::live::pass_on` meets its contract.
-use native.Mathlib.Nat.{mod-eq_of_lt}
 use mathlib.Core.Path.{sym, ap, ◌∙◌}
-use Rattle.words.specs.Answer.{ok}
-use Rattle.references.proofs.Sources.{code-source, code-none}
+use borrow.Author.Tests.{eq-eqb, ne_eqb}
+use Rattle.capabilities.specs.Search.{capability_answer}
+use Rattle.references.specs.Live.{passed_of, live_match}
+use Rattle.references.proofs.Sources.{first-none}
 use Rattle.references.proofs.live.pass_on.Goals as goal
 
-pub returns-then-source-ge256 : goal.returns-then-source-ge256
-returns-then-source-ge256 c = sym (code-none _ c.if-source-ge256.true) ∙ c.source_of-source.ensures.result_value
+pub returns-then-view-eq0 : goal.returns-then-view-eq0
+unfolding passed_of live_match
+returns-then-view-eq0 c = simp (eq-eqb _ _ c.if-view-eq0.true)
 
-pub returns : goal.returns
-returns c = ap ok (mod-eq_of_lt c.if-source-ge256.false) ∙ sym (code-source _ c.if-source-ge256.false) ∙ c.source_of-source.ensures.result_value
+pub returns-in-Refused : goal.returns-in-Refused
+unfolding passed_of live_match
+returns-in-Refused c =
+    simp (ne_eqb _ _ c.if-view-eq0.false, first-none _ _ _ (sym c.search.ensures ∙ ap capability_answer c.in-Refused.is))
+
+pub returns-in-Capability : goal.returns-in-Capability
+unfolding passed_of live_match
+returns-in-Capability c =
+    simp (ne_eqb _ _ c.if-view-eq0.false, ← c.search.ensures, c.in-Capability.is)

@@ -1,19 +1,21 @@
 -- `references::reference::locate` meets its contract.
-use mathlib.Core.Path.{sym, ◌∙◌}
-use borrow.Author.Tests.{eq-eqb, ne_eqb}
+use mathlib.Core.Path.{sym, ap, ◌∙◌}
+use borrow.Author.Tests.{eq-eqb}
+use Rattle.words.specs.Refusal.{answer}
+use Rattle.words.proofs.Results.{number-ne_0, handed_on}
 use Rattle.references.specs.Reference.{locate_of}
 use Rattle.references.proofs.Passes.{static-exists, exists-facts}
 use Rattle.references.proofs.reference.locate.Goals as goal
 
-pub returns-then-n-ne0 : goal.returns-then-n-ne0
-unfolding locate_of
-returns-then-n-ne0 c = simp (← c.static_check-n.ensures, ne_eqb _ _ c.if-n-ne0.true)
+pub bounds-view-i : goal.bounds-view-i
+bounds-view-i c = (exists-facts _ _ _ (static-exists _ _ _ _ _ _ (sym (c.in_ok-static_check.ensures)))).0
 
-pub bounds-bases-i : goal.bounds-bases-i
-bounds-bases-i c = (exists-facts _ _ _ (static-exists _ _ _ _ _ _ (sym c.static_check-n.ensures ∙ c.if-n-ne0.false))).0
+pub returns-in_err-static_check : goal.returns-in_err-static_check
+unfolding locate_of
+returns-in_err-static_check c =
+    let r = handed_on c.from_residual.result _ c.from_residual.ensures.1 in
+    ap answer r ∙ simp (← c.in_err-static_check.ensures, number-ne_0 c.in_err-static_check.field-0.0)
 
 pub returns : goal.returns
 unfolding locate_of
-returns c =
-    let e = c in
-    simp (← e.static_check-n.ensures, eq-eqb _ _ e.if-n-ne0.false, c.index.ensures)
+returns c = simp (eq-eqb _ _ (sym (c.in_ok-static_check.ensures)), c.index.ensures)
