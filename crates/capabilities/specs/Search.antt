@@ -1,10 +1,8 @@
 -- The search of a run of capabilities.
-use Rattle.std.specs.Prelude.{ℕ, ◌+◌, Bool, true, ◌&&◌, List, [], ◌∷◌, leb, eqb, if◌then◌else◌}
+use Rattle.std.specs.Prelude.{ℕ, ◌+◌, Bool, true, ◌&&◌, List, [], ◌∷◌, Option, Some, None, leb, eqb, if◌then◌else◌}
 use Rattle.words.specs.Answer.{Answer, refuse, ok}
 use Rattle.words.specs.Numbers.{no_match}
 use Rattle.state.specs.declared.record.Capability.{Capability}
-use Rattle.capabilities.specs.declared.CapabilityAnswer.{CapabilityAnswer}
-use Rattle.capabilities.specs.declared.CapabilityAnswer.TheVariants as variant
 
 -- a flag that is asked is there
 abbrev pub granted : Bool → Bool → Bool
@@ -20,7 +18,7 @@ unfoldable pub first_of : (Capability → Bool) → List Capability → Answer C
 first_of fits [] = refuse no_match
 first_of fits (c ∷ cs) = if fits c then ok c else first_of fits cs
 
--- what the code's answer stands for
-abbrev pub capability_answer : CapabilityAnswer → Answer Capability
-capability_answer (variant.Capability c) = ok c
-capability_answer (variant.Refused n) = refuse n
+-- what the code's option stands for
+abbrev pub capability_answer : Option Capability → Answer Capability
+capability_answer (Some c) = ok c
+capability_answer None = refuse no_match

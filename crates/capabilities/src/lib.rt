@@ -7,37 +7,22 @@ ghost use Rattle.capabilities.specs.Search.{granted, covers_of, first_of, capabi
 
 use state::record::Capability;
 
-// What a search gives: the first capability that fits, or the refusal 24.
-#[derive(Clone, Copy)]
-pub enum CapabilityAnswer {
-    Capability(Capability),
-    Refused(u8),
-}
-
 // A flag that is asked is there.
 fn is_granted(asked: bool, there: bool) -> bool
     ensures { result ≡ granted asked there }
 {
-    if asked { there } else { true }
+    !asked || there
 }
 
 // Whether a capability is on the segment, covers length words from word up, and has the flags asked.
 pub fn covers(c: Capability, segment: u8, word: u16, length: u16, read: bool, write: bool) -> bool
     ensures { result ≡ covers_of segment word length read write c }
 {
-    if !is_granted(read, c.read) {
-        return false;
-    }
-    if !is_granted(write, c.write) {
-        return false;
-    }
-    if word < c.word {
-        return false;
-    }
-    if c.segment != segment {
-        return false;
-    }
-    (word as u32) + (length as u32) <= (c.word as u32) + (c.length as u32)
+    is_granted(read, c.read)
+        && is_granted(write, c.write)
+        && c.word <= word
+        && c.segment == segment
+        && u32::from(word) + u32::from(length) <= u32::from(c.word) + u32::from(c.length)
 }
 
 // The first of a frame's count capabilities that covers the words with the flags asked.
@@ -49,20 +34,12 @@ pub fn search(
     length: u16,
     read: bool,
     write: bool,
-) -> CapabilityAnswer
+) -> Option<Capability>
     ensures { capability_answer result ≡ first_of (covers_of segment word length read write) (take count capabilities) }
 {
-    let mut i = 0u8;
-    while i < count {
-        if 9 <= i {
-            return CapabilityAnswer::Refused(24);
-        }
-        let k = i as usize;
-        let c = capabilities[k];
-        if covers(c, segment, word, length, read, write) {
-            return CapabilityAnswer::Capability(c);
-        }
-        i += 1;
-    }
-    CapabilityAnswer::Refused(24)
+    capabilities
+        .iter()
+        .take(usize::from(count))
+        .find(|c| covers(**c, segment, word, length, read, write))
+        .copied()
 }

@@ -1,44 +1,16 @@
 -- `capabilities::search` meets its contract.
-use Prim.Native.Nat.{◌-◌}
-use mathlib.Core.Path.{◌≡◌, sym, refl, ◌∙◌}
-use mathlib.Core.Bool.{Bool}
-use Rattle.state.specs.declared.record.Capability.{Capability}
-use borrow.Author.Rules.{rules}
-use lib.ListN.{length}
-use Rattle.capabilities.specs.Search.{covers_of}
-use Rattle.capabilities.proofs.First.{hit, miss, none-counted, none-there}
+use Rattle.std.proofs.Common.{◌∙◌, ap, take, rules, tests}
+use Rattle.std.proofs.lemmas.Iterator.{YieldsList-from_slice, YieldsList-from_take}
+use Rattle.std.proofs.lemmas.Iterator.Consumers.{YieldsList-at}
+use Rattle.std.proofs.lemmas.Iterator.Search.{find_from_yields_List}
+use Rattle.capabilities.specs.Search.{covers_of, capability_answer}
+use Rattle.capabilities.proofs.First.{first-found}
 use Rattle.capabilities.proofs.search.Goals as goal
-use Rattle.capabilities.proofs.search.Goals.{Start}
-
-pub loop-i-init : goal.loop-i-init
-loop-i-init c = (search rules, refl)
-
--- a frame has nine rows
-rows : (s : Start) → length s.args.capabilities ≡ 9
-rows s = s.well_formed.0.1.0.1
-
--- what is looked for
-abbrev fits : Start → Capability → Bool
-fits s = covers_of s.args.segment s.args.word s.args.length s.args.read s.args.write
-
-pub returns-then-i-ge9 : goal.returns-then-i-ge9
-returns-then-i-ge9 c =
-    let l = c.before.before in
-    sym (none-there (fits l.before) l.before.args.capabilities l.before.args.count l.loop-i.i l.loop-i.invariant.1 (rw (rows l.before) c.if-i-ge9.true))
-
-pub returns-then-covers : goal.returns-then-covers
-returns-then-covers c =
-    let e = c.before.before.before in
-    let l = e.before.before in
-    sym (hit (fits l.before) _ _ _ l.loop-i.invariant.1 e.before.loop-i-test.true (rw (rows l.before) e.if-i-ge9.false) (sym c.before.covers.ensures ∙ c.if-covers.true))
-
-pub loop-i-preserved : goal.loop-i-preserved
-loop-i-preserved c =
-    let e = c.before.before.before in
-    let l = e.before.before in
-    (search rules, miss (fits l.before) _ _ _ l.loop-i.invariant.1 e.before.loop-i-test.true (rw (rows l.before) e.if-i-ge9.false) (sym c.before.covers.ensures ∙ c.if-covers.false))
 
 pub returns : goal.returns
 returns c =
-    let l = c.before in
-    sym (none-counted (fits l.before) _ _ _ l.loop-i.invariant.1 c.loop-i-test.false)
+    let a = c.args in
+    let fits = covers_of a.segment a.word a.length a.read a.write in
+    let listed = YieldsList-from_take a.count (YieldsList-at c.take.ensures.source (YieldsList-from_slice a.capabilities (cc))) (cc) in
+    let found = find_from_yields_List fits _ _ c.find.result c.find.ensures.ran listed (λ x b q k. search (rules, tests)) in
+    ap capability_answer (c.copied.ensures ∙ found) ∙ first-found fits (take a.count a.capabilities)
