@@ -5,7 +5,7 @@
 ghost use Rattle.std.specs.Prelude.{◌≡◌, ◌≤◌, take};
 ghost use Rattle.capabilities.specs.Search.{covers_of, first_of, capability_answer};
 
-use capabilities::{CapabilityAnswer, covers};
+use capabilities::covers;
 use state::record::Capability;
 
 // The first capability of a run that covers the words with the flags asked. A frame has nine rows, and no more of a run are looked at: with that bound the compiler unrolls the loop, and the rows that are lent need no copy in memory.
@@ -16,21 +16,14 @@ pub fn first(
     length: u16,
     read: bool,
     write: bool,
-) -> CapabilityAnswer
+) -> Option<Capability>
     ensures { capability_answer result ≡ first_of (covers_of segment word length read write) (take 9 capabilities.now) }
 {
-    let mut i = 0;
-    while i < capabilities.len() {
-        if 9 <= i {
-            return CapabilityAnswer::Refused(24);
-        }
-        let c = capabilities[i];
-        if covers(c, segment, word, length, read, write) {
-            return CapabilityAnswer::Capability(c);
-        }
-        i += 1;
-    }
-    CapabilityAnswer::Refused(24)
+    capabilities
+        .iter()
+        .take(9)
+        .find(|c| covers(**c, segment, word, length, read, write))
+        .copied()
 }
 
 // The first n of a frame's rows are handed over.
@@ -42,7 +35,7 @@ fn hand_over(
     length: u16,
     read: bool,
     write: bool,
-) -> CapabilityAnswer
+) -> Option<Capability>
     requires { n ≤ 9 }
     ensures { capability_answer result ≡ first_of (covers_of segment word length read write) (take n capabilities) }
 {
@@ -58,12 +51,9 @@ pub fn search(
     length: u16,
     read: bool,
     write: bool,
-) -> CapabilityAnswer
+) -> Option<Capability>
     ensures { capability_answer result ≡ first_of (covers_of segment word length read write) (take count capabilities) }
 {
-    if 9 < count {
-        return hand_over(capabilities, 9, segment, word, length, read, write);
-    }
-    let n = count as usize;
+    let n = usize::from(count.min(9));
     hand_over(capabilities, n, segment, word, length, read, write)
 }
