@@ -1,20 +1,20 @@
 -- The registers in columns: one register changed, and all of them, one after the other.
 use Rattle.std.specs.Prelude.{if◌then◌else◌}
-use Prim.Native.Nat.{ℕ, zero, suc, ◌+◌, ◌*◌, ◌-◌, ◌<◌, ◌≤◌, ◌%◌, ◌/◌}
+use Prim.Native.Nat.{ℕ, ◌+◌, ◌*◌, ◌<◌, ◌≤◌, ◌%◌, ◌/◌}
 use native.Mathlib.Omega.{arith}
 use mathlib.Core.Bool.{Bool, true, false}
-use mathlib.Core.List.{List, [], ◌∷◌, map}
-use mathlib.Core.Path.{◌≡◌, refl, sym, ap, ◌∙◌}
-use borrow.Author.Tests.{eqb-true, eqb-false, eq-eqb, ltb-true, ltb-false, lt-ltb, le-ltb}
-use lib.Dec.{eqb, ltb}
+use mathlib.Core.List.{List}
+use mathlib.Core.Path.{◌≡◌, refl, ap, ◌∙◌}
+use borrow.Author.Tests.{eqb-true, eqb-false}
+use lib.Dec.{eqb}
 use lib.ListN.{length, get_or, set, length-set}
 use lib.Seq.{get_or-set_same, get_or-set_other}
 use Rattle.words.specs.Bit.{bit}
 use Rattle.state.specs.declared.record.Register.{Register}
 use Rattle.recent.specs.Registers.{numbered}
-use Rattle.lent_registers.specs.Columns.{register_at, registers_from, registers_of}
+use Rattle.lent_registers.specs.Columns.{register_at}
 use Rattle.lent_registers.specs.Private.{put_from, row_of, put_at}
-use Rattle.lent_registers.proofs.Rows.{put-length, put_under, put_other, put_same}
+use Rattle.lent_registers.proofs.Rows.{put_under, put_other, put_same}
 
 -- only register i of xs is changed in ys, by f
 abbrev pub Only : ℕ → (Register → Register) → List ℕ → List ℕ → Type 0

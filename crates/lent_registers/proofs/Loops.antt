@@ -1,14 +1,13 @@
 -- The loops of a match, an entry and a return: each changes one register more.
 use Rattle.std.specs.Prelude.{if◌then◌else◌}
-use Prim.Native.Nat.{ℕ, zero, suc, ◌+◌, ◌-◌, ◌<◌, ◌≤◌}
+use Prim.Native.Nat.{ℕ, ◌+◌, ◌-◌, ◌<◌, ◌≤◌}
 use native.Mathlib.Omega.{arith}
 use mathlib.Core.Bool.{Bool, true, false}
-use mathlib.Core.List.{List, [], ◌∷◌, map}
+use mathlib.Core.List.{List, map}
 use mathlib.Core.Path.{◌≡◌, refl, sym, ap, ◌∙◌}
-use borrow.Author.Tests.{eqb-true, eqb-false, lt-ltb, le-ltb}
 use lib.Dec.{eqb, ltb}
 use lib.ListN.{length, get_or, set, length-set}
-use Rattle.words.specs.Answer.{Answer, refuse, ok}
+use Rattle.words.specs.Answer.{refuse, ok}
 use Rattle.words.specs.Bit.{bit}
 use Rattle.state.specs.declared.record.Capability.{Capability}
 use Rattle.state.specs.declared.record.Register.{Register}
@@ -16,9 +15,9 @@ use Rattle.state.specs.Record.{no_capability}
 use Rattle.recent.specs.Registers.{register, numbered, risen, entered_in, order_of, before, cleared_in}
 use Rattle.recent.specs.Found.{holds, held_of}
 use Rattle.lent_registers.specs.Columns.{register_at, registers_from, registers_of}
-use Rattle.lent_registers.specs.Private.{put_from, row_of, put_at, entered_at, cleared_at}
+use Rattle.lent_registers.specs.Private.{row_of, put_at, entered_at, cleared_at}
 use Rattle.lent_registers.proofs.Rows.{put-length}
-use Rattle.lent_registers.proofs.Changed.{Only, only-number, only-put}
+use Rattle.lent_registers.proofs.Changed.{only-number, only-put}
 use Rattle.lent_registers.proofs.Mapped.{Mapped, mapped-none, mapped_at, mapped_next, mapped-all, from_next}
 
 pub put-room : (xs : List ℕ) (i : ℕ) (r : Register) → length (put_at xs i r) ≡ length xs

@@ -1,11 +1,10 @@
 -- The registers after a reference and after a call, case by case.
 use Rattle.std.specs.Prelude.{if◌then◌else◌}
-use Prim.Native.Nat.{ℕ, ◌-◌, ◌<◌, ◌≤◌}
-use mathlib.Core.Bool.{Bool, true, false, not}
+use Prim.Native.Nat.{ℕ, ◌-◌}
+use mathlib.Core.Bool.{Bool, not}
 use mathlib.Core.List.{List}
-use mathlib.Core.Path.{◌≡◌, refl, sym, ap, ◌∙◌}
-use borrow.Author.Tests.{eq-eqb, ne_eqb, lt-ltb, le-ltb}
-use lib.Dec.{eqb, ltb}
+use mathlib.Core.Path.{◌≡◌, sym, ap, ◌∙◌}
+use borrow.Author.Tests.{eq-eqb, ne_eqb}
 use lib.ListN.{get_or, take}
 use Rattle.words.specs.Answer.{Answer, refuse, ok, ◌>>=◌}
 use Rattle.state.specs.declared.record.Capability.{Capability}
@@ -15,9 +14,7 @@ use Rattle.state.specs.Record.{no_capability}
 use Rattle.capabilities.specs.Search.{covers_of, first_of}
 use Rattle.recent.specs.Entering.{all_yield, may_enter, capabilities_of}
 use Rattle.recent.specs.Registers.{touched, with_entry, listed}
-use Rattle.recent.specs.Found.{Found, held_of, noted, searched, by_held, found_of, registers_after, referred_to}
-use Rattle.lent_registers.specs.Columns.{register_at, registers_of}
-use Rattle.lent_registers.specs.Lent.{held_answer}
+use Rattle.recent.specs.Found.{held_of, noted, searched, by_held, found_of, registers_after, referred_to}
 
 -- the full search
 module _ (depth : ℕ) (fits : Capability → Bool) (cs : List Capability) (rs : List Register) where
@@ -47,13 +44,6 @@ module _ (rs : List Register) (depth : ℕ) (frame : Frame) (segment word : ℕ)
       → referred_to rs depth frame segment word read ≡ registers_after rs (searched depth fits (capabilities_of frame) rs)
   unfolding referred_to found_of
   refer-searched n ne e = rw (ne_eqb depth 0 ne) (ap (λ (a : Answer Register). registers_after rs (by_held depth fits (capabilities_of frame) rs a)) e)
-
--- what a lookup's place says
-pub place-held : (xs : List ℕ) (i : ℕ) (a : Answer Register) → held_answer xs i ≡ a → i < 16 → a ≡ ok (register_at xs i)
-place-held xs i a e h = sym e ∙ ap (λ (t : Bool). if t then ok (register_at xs i) else refuse 24) (lt-ltb i 16 h)
-
-pub place_none : (xs : List ℕ) (i : ℕ) (a : Answer Register) → held_answer xs i ≡ a → 16 ≤ i → a ≡ refuse 24
-place_none xs i a e h = sym e ∙ ap (λ (t : Bool). if t then ok (register_at xs i) else refuse 24) (le-ltb i 16 h)
 
 -- a call
 pub listed-is : (depth : ℕ) (f : Frame) (rs : List Register) (n : ℕ) (c : Capability) (t : Bool) → n ≡ f.count - 1 → c ≡ get_or f.capabilities n no_capability

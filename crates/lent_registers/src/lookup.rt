@@ -1,5 +1,5 @@
 // The lookup of a match in the registers.
-ghost use Rattle.std.specs.Prelude.{◌≡◌, not, ◌<◌, ◌≤◌};
+ghost use Rattle.std.specs.Prelude.{◌≡◌, not, ◌<◌, IfSome};
 ghost use Rattle.capabilities.specs.Search.{covers_of};
 ghost use Rattle.recent.specs.Found.{holds, held_of};
 ghost use Rattle.lent_registers.specs.Columns.{register_at, registers_of};
@@ -20,17 +20,15 @@ fn is_held(recent: &[u8; 160], i: usize, depth: u8, segment: u8, word: u16, read
     covers(r.capability, segment, word, 1, read, !read)
 }
 
-// The place of the lowest register that holds a match; 16 where none does.
-pub fn held(recent: &[u8; 160], depth: u8, segment: u8, word: u16, read: bool) -> usize
+// The place of the lowest register that holds a match.
+pub fn held(recent: &[u8; 160], depth: u8, segment: u8, word: u16, read: bool) -> Option<usize>
     ensures result_value { held_answer recent.now result ≡ held_of depth (covers_of segment word 1 read (not read)) (registers_of recent.now) }
-    ensures upper_bound { result ≤ 16 }
+    ensures upper_bound { IfSome result (λ i. i < 16) }
 {
-    let mut i = 0usize;
-    while i < 16 {
+    for i in 0..16 {
         if is_held(recent, i, depth, segment, word, read) {
-            return i;
+            return Some(i);
         }
-        i += 1;
     }
-    16
+    None
 }

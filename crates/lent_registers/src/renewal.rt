@@ -11,7 +11,6 @@ ghost use Rattle.lent_registers.specs.Private.{entered_at, Ranks, cleared_at};
 
 use crate::cells::{put, renumber};
 use crate::lookup::held;
-use capabilities::CapabilityAnswer;
 use recent::entering::{all_yield, may_enter};
 use slice_search::search;
 use state::record::{Capability, Frame, Register};
@@ -181,12 +180,9 @@ fn search_frame(recent: &mut [u8], depth: u8, frame: Frame, segment: u8, word: u
     ensures { registers_of recent.new ≡ registers_after (registers_of recent.old) (searched depth (covers_of segment word 1 read (not read)) (capabilities_of frame) (registers_of recent.old)) }
 {
     let capabilities = frame.capabilities;
-    match search(capabilities, frame.count, segment, word, 1, read, !read) {
-        CapabilityAnswer::Refused(_) => {}
-        CapabilityAnswer::Capability(c) => {
-            if may_enter(capabilities, frame.count, c) {
-                enter(recent, c, depth);
-            }
+    if let Some(c) = search(capabilities, frame.count, segment, word, 1, read, !read) {
+        if may_enter(capabilities, frame.count, c) {
+            enter(recent, c, depth);
         }
     }
 }
@@ -198,13 +194,12 @@ pub fn refer(recent: &mut [u8; 160], depth: u8, frame: Frame, segment: u8, word:
     if depth == 0 {
         return;
     }
-    let i = held(recent, depth, segment, word, read);
-    if i < 16 {
+    if let Some(i) = held(recent, depth, segment, word, read) {
         let old = recent[i];
         touch(recent, old);
-        return;
+    } else {
+        search_frame(recent, depth, frame, segment, word, read);
     }
-    search_frame(recent, depth, frame, segment, word, read);
 }
 
 // Row n of a frame; past the ninth, nothing.

@@ -1,9 +1,6 @@
 -- `lent_registers::lookup::held` meets its contract.
-use Prim.Native.Nat.{◌-◌}
-use native.Mathlib.Omega.{arith}
 use mathlib.Core.Path.{sym, ◌∙◌}
 use borrow.Author.Rules.{rules}
-use borrow.Author.Tests.{lt-ltb}
 use Rattle.lent_registers.proofs.Loops.{looks-none, looks-hit, looks_on, looks-all}
 use Rattle.lent_registers.proofs.lookup.held.Goals as goal
 
@@ -12,13 +9,10 @@ loop-i-init c = looks-none _ _ _ 0
 
 pub returns-then-is_held : goal.returns-then-is_held
 returns-then-is_held c =
-    let l = c in
-    record { result_value = rw (lt-ltb _ _ l.loop-i-test.true) (sym (looks-hit _ _ _ _ l.loop-i-test.true l.loop-i.invariant (sym c.is_held.ensures ∙ c.if-is_held.true))); upper_bound = search rules }
+    record { result_value = sym (looks-hit _ _ _ _ c.loop-i-test.true c.loop-i.invariant (sym c.is_held.ensures ∙ c.if-is_held.true)); upper_bound = c.loop-i-test.true }
 
 pub loop-i-preserved : goal.loop-i-preserved
-loop-i-preserved c =
-    let l = c in
-    looks_on _ _ _ _ l.loop-i-test.true l.loop-i.invariant (sym c.is_held.ensures ∙ c.if-is_held.false)
+loop-i-preserved c = looks_on _ _ _ _ c.loop-i-test.true c.loop-i.invariant (sym c.is_held.ensures ∙ c.if-is_held.false)
 
 pub returns : goal.returns
-returns c = record { result_value = sym (looks-all _ _ _ _ c.loop-i-test.false c.loop-i.invariant); upper_bound = omega arith }
+returns c = record { result_value = sym (looks-all _ _ _ _ c.loop-i-test.false c.loop-i.invariant); upper_bound = search rules }

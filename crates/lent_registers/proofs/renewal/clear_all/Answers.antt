@@ -1,4 +1,3 @@
-use Prim.Native.Nat.{◌-◌}
 use mathlib.Core.Path.{sym, ◌∙◌}
 use Rattle.recent.specs.Registers.{cleared}
 use Rattle.lent_registers.proofs.Loops.{begins, changed-all, clears-on}

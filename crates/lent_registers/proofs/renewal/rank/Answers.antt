@@ -1,4 +1,3 @@
-use Prim.Native.Nat.{◌-◌}
 use Rattle.lent_registers.proofs.Loops.{ranks-none, ranks-next, ranks-all}
 use Rattle.lent_registers.proofs.renewal.rank.Goals as goal
 
