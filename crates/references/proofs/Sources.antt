@@ -1,11 +1,10 @@
 -- The source that a search gives, as an answer and as a number.
 use Rattle.std.specs.Prelude.{if◌then◌else◌}
-use Prim.Native.Nat.{ℕ, ◌<◌, ◌≤◌}
-use native.Mathlib.Omega.{arith}
-use mathlib.Core.Path.{◌≡◌, refl, sym, ap, ◌∙◌}
-use mathlib.Core.Bool.{Bool, true, false, not}
-use mathlib.Core.List.{List, [], ◌∷◌}
-use borrow.Author.Tests.{eq-eqb, ne_eqb, lt-ltb, le-ltb}
+use Prim.Native.Nat.{ℕ}
+use mathlib.Core.Path.{◌≡◌, refl, ap, ◌∙◌}
+use mathlib.Core.Bool.{Bool, not}
+use mathlib.Core.List.{List}
+use borrow.Author.Tests.{eq-eqb, ne_eqb}
 use lib.Dec.{eqb}
 use Rattle.words.specs.Answer.{Answer, refuse, ok, ◌>>=◌}
 use Rattle.words.specs.Numbers.{no_match, source_fails}
@@ -19,22 +18,7 @@ use Rattle.references.specs.declared.flag.Access.{Access}
 use Rattle.references.specs.Flag.{flag_of, is_read}
 use Rattle.references.specs.Static.{static_of}
 use Rattle.references.specs.Live.{live_match, live_of, live_through, passed_of, sourced}
-use Rattle.references.specs.Private.{code_answer, found_source}
-
--- whether something was found
-abbrev found : Answer Capability → ℕ
-found (refuse n) = 0
-found (ok c) = 1
-
--- a search that gives nothing gives 24
-pub first-none : (fits : Capability → Bool) (cs : List Capability) (n : ℕ) → first_of fits cs ≡ refuse n → first_of fits cs ≡ refuse no_match
-unfolding first_of
-first-none fits [] n e = refl
-first-none fits (c ∷ cs) n e = by (first-none fits cs n) (fits c) refl
-  where
-    by : (first_of fits cs ≡ refuse n → first_of fits cs ≡ refuse no_match) → (t : Bool) → fits c ≡ t → first_of fits (c ∷ cs) ≡ refuse no_match
-    by rest true f = absurd (let z : ◌≡◌ {A = ℕ} 1 0 = ap found (simp f at e) in omega arith)
-    by rest false f = simp f (rest (simp f at e))
+use Rattle.references.specs.Private.{found_source}
 
 -- after a search for the source: its static check
 abbrev pub sourced_by : List ℕ → List ℕ → Access → ℕ → ℕ → Answer ℕ → ℕ
@@ -86,10 +70,3 @@ module _ (recent : List Register) (depth : ℕ) (frame : Frame) (segment word : 
         go : (a : Answer Capability) → ((a >>= (λ c. ok (record { capability = c; registers = noted depth (capabilities_of frame) recent c }))) >>= (λ (f : Found). ok f.capability.source)) ≡ (a >>= (λ c. ok c.source))
         go (refuse k) = refl
         go (ok c) = refl
-
--- the number of a source, and of none
-pub code-source : (n : ℕ) → n < 256 → code_answer n ≡ ok n
-code-source n h = simp (lt-ltb n 256 h)
-
-pub code-none : (n : ℕ) → 256 ≤ n → code_answer n ≡ refuse no_match
-code-none n h = simp (le-ltb n 256 h)

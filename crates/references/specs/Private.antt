@@ -1,15 +1,10 @@
 -- Definitions that only contracts of private functions cite.
-use Rattle.std.specs.Prelude.{ℕ, Bool, not, List, ltb, if◌then◌else◌}
-use Rattle.words.specs.Answer.{Answer, refuse, ok, ◌>>=◌}
-use Rattle.words.specs.Numbers.{no_match}
+use Rattle.std.specs.Prelude.{ℕ, Bool, not, List}
+use Rattle.words.specs.Answer.{Answer, ok, ◌>>=◌}
 use Rattle.state.specs.declared.record.Frame.{Frame}
 use Rattle.state.specs.declared.record.Register.{Register}
 use Rattle.capabilities.specs.Search.{covers_of}
 use Rattle.recent.specs.Found.{found_of}
-
--- what a source given as a number stands for: none from 256 up
-abbrev pub code_answer : ℕ → Answer ℕ
-code_answer n = if ltb n 256 then ok n else refuse no_match
 
 -- the source behind a reference to a word, through the registers
 unfoldable pub found_source : List Register → ℕ → Frame → ℕ → ℕ → Bool → Answer ℕ

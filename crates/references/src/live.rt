@@ -8,7 +8,6 @@ ghost use Rattle.lent_registers.specs.Columns.{registers_of};
 use crate::flag::{Access, asked, is_read};
 use crate::statics::static_check;
 use crate::view::View;
-use capabilities::CapabilityAnswer;
 use lent_registers::lookup::held;
 use slice_search::search;
 use words::refusal::Refusal;
@@ -37,8 +36,8 @@ pub fn pass_on(
         read,
         write,
     ) {
-        CapabilityAnswer::Refused(_) => Err(Refusal::NoMatch),
-        CapabilityAnswer::Capability(c) => Ok(c.source),
+        None => Err(Refusal::NoMatch),
+        Some(c) => Ok(c.source),
     }
 }
 
@@ -55,11 +54,10 @@ fn found_source(
     if view.depth == 0 {
         return Err(Refusal::NoMatch);
     }
-    let i = held(recent, view.depth, segment, word, read);
-    if i < 16 {
-        return Ok(recent[48 + i]);
+    match held(recent, view.depth, segment, word, read) {
+        Some(i) => Ok(recent[48 + i]),
+        None => pass_on(view, segment, word, 1, read, !read),
     }
-    pass_on(view, segment, word, 1, read, !read)
 }
 
 // The live check of a word, through the registers: NoMatch where no capability of the live frame matches or there is no frame, SourceFails where the match's source fails its static check.
