@@ -1,9 +1,9 @@
 -- Where each instruction's plan settles, and that only a store changes words.
 use Rattle.std.specs.Prelude.{if◌then◌else◌}
-use Prim.Native.Nat.{ℕ, ◌+◌}
+use Prim.Native.Nat.{ℕ}
 use mathlib.Core.Bool.{Bool, true, false}
 use mathlib.Core.List.{List}
-use mathlib.Core.Path.{◌≡◌, refl, sym, ap, ◌∙◌}
+use mathlib.Core.Path.{◌≡◌, refl}
 use lib.Dec.{eqb}
 use Rattle.words.specs.Answer.{Answer, refuse, ok, ◌>>=◌}
 use Rattle.words.specs.declared.pointer.Pointer.{Pointer}
@@ -16,8 +16,7 @@ use Rattle.instructions.specs.Plan.{Plan, move, enter}
 use Rattle.transfers.specs.Transfer.{jump_check, call_way}
 use Rattle.instructions.specs.Instruction.{jump_of, call_of, load_of, next, operate_of}
 use Rattle.pointer_registers.specs.Stack.{stack_of, with_base}
-use Rattle.instructions.specs.Cycle.{Progress, moved, entering, moved_registers, settled, settled_words}
-use Rattle.memory.proofs.Answers.{accept-then}
+use Rattle.instructions.specs.Cycle.{Progress, moved, moved_registers, settled_words}
 use Rattle.instructions.specs.Private.{loaded, called, settled_answer}
 
 module _ (lengths gates rights stacks bases words : List ℕ) (recent : List Register) (depth : ℕ) (frame : Frame) (r : Registers) (pointers : List Pointer) (q : Pointer) where

@@ -1,6 +1,7 @@
 -- An instruction cycle, fetch and execute, as the loop makes it: everything but a crossing.
 use Rattle.std.specs.Prelude.{ℕ, ◌+◌, List, ◌≡◌, set}
 use Rattle.words.specs.Answer.{Answer, refuse, ok, ◌>>=◌}
+use Rattle.words.specs.Refusal.{number}
 use Rattle.words.specs.declared.pointer.Pointer.{Pointer}
 use Rattle.state.specs.declared.record.Frame.{Frame}
 use Rattle.state.specs.declared.record.Register.{Register}
@@ -32,7 +33,7 @@ event_answer r pointers (event.Pointed i p) = ok (moved r (set pointers i p))
 event_answer r pointers event.Halted = ok ended
 event_answer r pointers (event.Entering p) = ok (entering p)
 event_answer r pointers (event.Leaving p q) = ok (leaving p q)
-event_answer r pointers (event.Faulted n) = refuse n
+event_answer r pointers (event.Faulted refusal) = refuse (number refusal)
 
 -- the same of a cycle's answer, with the registers in it
 abbrev pub cycle_answer : List Pointer → Cycle → Answer Progress
@@ -45,7 +46,7 @@ stays_by r s (event.Pointed i p) = Unit {0}
 stays_by r s event.Halted = s ≡ r
 stays_by r s (event.Entering p) = s ≡ r
 stays_by r s (event.Leaving p q) = s ≡ r
-stays_by r s (event.Faulted n) = s ≡ r
+stays_by r s (event.Faulted refusal) = s ≡ r
 
 -- the same of a cycle's answer
 abbrev pub Stays : Registers → Cycle → Type 0

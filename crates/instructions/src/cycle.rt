@@ -12,13 +12,15 @@ use crate::effects::{call, go_to, load, onward, save, stay};
 use crate::made::{indirect_place, note_indirect};
 use crate::opcodes::{is_load, is_store};
 use addressing::effective;
-use memory::{WordAnswer, fetch};
+use memory::fetch;
 use pointer_registers::pointer_at;
-use state::record::{Frame, Registers};
+use references::view::View;
+use state::record::Registers;
 use transfers::jump_check;
-use words::instruction::{Instruction, InstructionAnswer, decode};
+use words::instruction::{Instruction, decode};
 use words::offset::literal;
-use words::pointer::{Pointer, PointerAnswer, pack};
+use words::pointer::{Pointer, pack};
+use words::refusal::Refusal;
 
 // Where an instruction came to.
 #[derive(Clone, Copy)]
@@ -30,7 +32,7 @@ pub enum Event {
     Entering(Pointer),
     // to the first pointer, by an instruction with its indirect word at the second, untagged where it has none
     Leaving(Pointer, Pointer),
-    Faulted(u8),
+    Faulted(Refusal),
 }
 
 #[derive(Clone, Copy)]
@@ -63,16 +65,10 @@ fn jumps(opcode: u8, a: u32, tag: bool) -> bool
 }
 
 // The effect of an opcode at an effective pointer; q is the place of the indirect word. Where it moves on, its live references are noted in the registers.
-fn effect<'a>(
-    lengths: &'a [u16; 16],
-    gates: &'a [u16; 16],
-    rights: &'a [u8; 128],
-    stacks: &'a [u8; 8],
-    bases: &'a [u32; 16],
+fn effect(
+    view: &View,
     words: &mut [u32],
     recent: &mut [u8; 160],
-    depth: u8,
-    frame: Frame,
     r: Registers,
     pointers: [Pointer; 8],
     i: Instruction,
@@ -80,64 +76,53 @@ fn effect<'a>(
     p: Pointer,
 ) -> Cycle
     requires { (r.word < 65535) × Reached q p }
-    ensures result_value { cycle_answer pointers result ≡ settled_answer lengths.now rights.now bases.now words.old (registers_of recent.old) depth frame r pointers q (effect_of lengths.now gates.now rights.now stacks.now depth r pointers (read_of lengths.now rights.now bases.now words.old r.domain (registers_of recent.old) depth frame) i.opcode i.register p) }
-    ensures words_after { words.new ≡ settled_words lengths.now rights.now bases.now words.old (registers_of recent.old) depth frame r pointers (effect_of lengths.now gates.now rights.now stacks.now depth r pointers (read_of lengths.now rights.now bases.now words.old r.domain (registers_of recent.old) depth frame) i.opcode i.register p) }
+    ensures result_value { cycle_answer pointers result ≡ settled_answer view.now.layout.lengths view.now.layout.rights view.now.bases words.old (registers_of recent.old) view.now.depth view.now.frame r pointers q (effect_of view.now.layout.lengths view.now.layout.gates view.now.layout.rights view.now.layout.stacks view.now.depth r pointers (read_of view.now.layout.lengths view.now.layout.rights view.now.bases words.old r.domain (registers_of recent.old) view.now.depth view.now.frame) i.opcode i.register p) }
+    ensures words_after { words.new ≡ settled_words view.now.layout.lengths view.now.layout.rights view.now.bases words.old (registers_of recent.old) view.now.depth view.now.frame r pointers (effect_of view.now.layout.lengths view.now.layout.gates view.now.layout.rights view.now.layout.stacks view.now.depth r pointers (read_of view.now.layout.lengths view.now.layout.rights view.now.bases words.old r.domain (registers_of recent.old) view.now.depth view.now.frame) i.opcode i.register p) }
     ensures stays { Stays r result }
-    ensures recent_after { registers_of recent.new ≡ recent_by (registers_of recent.old) (renewed_all (registers_of recent.old) depth frame (made_read q ∷ operand_made i.opcode p)) (cycle_answer pointers result) }
+    ensures recent_after { registers_of recent.new ≡ recent_by (registers_of recent.old) (renewed_all (registers_of recent.old) view.now.depth view.now.frame (made_read q ∷ operand_made i.opcode p)) (cycle_answer pointers result) }
 {
     let opcode = i.opcode;
     if is_load(opcode) {
-        return load(
-            lengths, rights, bases, words, recent, depth, frame, r, opcode, q, p,
-        );
+        return load(view, words, recent, r, opcode, q, p);
     }
     if is_store(opcode) {
         let v = value(opcode, r.a, pointers, i.register);
-        return save(
-            lengths, rights, bases, words, recent, depth, frame, r, q, p, v,
-        );
+        return save(view, words, recent, r, q, p, v);
     }
     if jumps(opcode, r.a, p.tag) {
-        let n = jump_check(lengths, rights, r.domain, p);
-        if n != 0 {
-            return stay(r, Event::Faulted(n));
-        }
-        return go_to(r, p, Event::Moved);
+        return match jump_check(&view.layout, r.domain, p) {
+            Err(refusal) => stay(r, Event::Faulted(refusal)),
+            Ok(()) => go_to(r, p, Event::Moved),
+        };
     }
     match opcode {
         5 => {
-            note_indirect(recent, depth, frame, q);
+            note_indirect(recent, view, q);
             onward(r, r.a, Event::Pointed(i.register, p))
         }
-        8 => call(lengths, gates, rights, stacks, depth, r, p),
+        8 => call(view, r, p),
         9 => stay(r, Event::Leaving(p, q)),
         _ => {
-            note_indirect(recent, depth, frame, q);
+            note_indirect(recent, view, q);
             onward(r, r.a, Event::Moved)
         }
     }
 }
 
 // An instruction: HALT and LIT form no effective pointer.
-fn perform<'a>(
-    lengths: &'a [u16; 16],
-    gates: &'a [u16; 16],
-    rights: &'a [u8; 128],
-    stacks: &'a [u8; 8],
-    bases: &'a [u32; 16],
+fn perform(
+    view: &View,
     words: &mut [u32],
     recent: &mut [u8; 160],
-    depth: u8,
-    frame: Frame,
     r: Registers,
     pointers: [Pointer; 8],
     i: Instruction,
 ) -> Cycle
     requires { r.word < 65535 }
-    ensures result_value { cycle_answer pointers result ≡ settled_answer lengths.now rights.now bases.now words.old (registers_of recent.old) depth frame r pointers (indirect_place pointers i) (execute_of lengths.now gates.now rights.now stacks.now depth r pointers (read_of lengths.now rights.now bases.now words.old r.domain (registers_of recent.old) depth frame) i) }
-    ensures words_after { words.new ≡ settled_words lengths.now rights.now bases.now words.old (registers_of recent.old) depth frame r pointers (execute_of lengths.now gates.now rights.now stacks.now depth r pointers (read_of lengths.now rights.now bases.now words.old r.domain (registers_of recent.old) depth frame) i) }
+    ensures result_value { cycle_answer pointers result ≡ settled_answer view.now.layout.lengths view.now.layout.rights view.now.bases words.old (registers_of recent.old) view.now.depth view.now.frame r pointers (indirect_place pointers i) (execute_of view.now.layout.lengths view.now.layout.gates view.now.layout.rights view.now.layout.stacks view.now.depth r pointers (read_of view.now.layout.lengths view.now.layout.rights view.now.bases words.old r.domain (registers_of recent.old) view.now.depth view.now.frame) i) }
+    ensures words_after { words.new ≡ settled_words view.now.layout.lengths view.now.layout.rights view.now.bases words.old (registers_of recent.old) view.now.depth view.now.frame r pointers (execute_of view.now.layout.lengths view.now.layout.gates view.now.layout.rights view.now.layout.stacks view.now.depth r pointers (read_of view.now.layout.lengths view.now.layout.rights view.now.bases words.old r.domain (registers_of recent.old) view.now.depth view.now.frame) i) }
     ensures stays { Stays r result }
-    ensures recent_after { registers_of recent.new ≡ recent_by (registers_of recent.old) (renewed_all (registers_of recent.old) depth frame (made_by (read_of lengths.now rights.now bases.now words.old r.domain (registers_of recent.old) depth frame) pointers i)) (cycle_answer pointers result) }
+    ensures recent_after { registers_of recent.new ≡ recent_by (registers_of recent.old) (renewed_all (registers_of recent.old) view.now.depth view.now.frame (made_by (read_of view.now.layout.lengths view.now.layout.rights view.now.bases words.old r.domain (registers_of recent.old) view.now.depth view.now.frame) pointers i)) (cycle_answer pointers result) }
 {
     let opcode = i.opcode;
     if opcode == 0 {
@@ -146,20 +131,12 @@ fn perform<'a>(
     if opcode == 12 {
         return onward(r, literal(i.offset), Event::Moved);
     }
-    match effective(
-        lengths, rights, bases, words, r.domain, recent, depth, frame, pointers, i,
-    ) {
-        PointerAnswer::Refused(n) => stay(r, Event::Faulted(n)),
-        PointerAnswer::Pointer(p) => effect(
-            lengths,
-            gates,
-            rights,
-            stacks,
-            bases,
+    match effective(view, words, r.domain, recent, pointers, i) {
+        Err(refusal) => stay(r, Event::Faulted(refusal)),
+        Ok(p) => effect(
+            view,
             words,
             recent,
-            depth,
-            frame,
             r,
             pointers,
             i,
@@ -170,31 +147,23 @@ fn perform<'a>(
 }
 
 // The instruction at the location.
-pub fn run_cycle<'a>(
-    lengths: &'a [u16; 16],
-    gates: &'a [u16; 16],
-    rights: &'a [u8; 128],
-    stacks: &'a [u8; 8],
-    bases: &'a [u32; 16],
+pub fn run_cycle(
+    view: &View,
     words: &mut [u32],
     recent: &mut [u8; 160],
-    depth: u8,
-    frame: Frame,
     r: Registers,
     pointers: [Pointer; 8],
 ) -> Cycle
-    ensures result_value { cycle_answer pointers result ≡ cycle_of lengths.now gates.now rights.now stacks.now bases.now words.old (registers_of recent.old) depth frame r pointers }
-    ensures words_after { words.new ≡ cycle_words lengths.now gates.now rights.now stacks.now bases.now words.old (registers_of recent.old) depth frame r pointers }
+    ensures result_value { cycle_answer pointers result ≡ cycle_of view.now.layout.lengths view.now.layout.gates view.now.layout.rights view.now.layout.stacks view.now.bases words.old (registers_of recent.old) view.now.depth view.now.frame r pointers }
+    ensures words_after { words.new ≡ cycle_words view.now.layout.lengths view.now.layout.gates view.now.layout.rights view.now.layout.stacks view.now.bases words.old (registers_of recent.old) view.now.depth view.now.frame r pointers }
     ensures stays { Stays r result }
-    ensures recent_after { registers_of recent.new ≡ cycle_recent lengths.now gates.now rights.now stacks.now bases.now words.old (registers_of recent.old) depth frame r pointers }
+    ensures recent_after { registers_of recent.new ≡ cycle_recent view.now.layout.lengths view.now.layout.gates view.now.layout.rights view.now.layout.stacks view.now.bases words.old (registers_of recent.old) view.now.depth view.now.frame r pointers }
 {
-    match fetch(lengths, rights, bases, words, r.domain, r.segment, r.word) {
-        WordAnswer::Refused(n) => stay(r, Event::Faulted(n)),
-        WordAnswer::Word(w) => match decode(w) {
-            InstructionAnswer::Refused(n) => stay(r, Event::Faulted(n)),
-            InstructionAnswer::Instruction(i) => perform(
-                lengths, gates, rights, stacks, bases, words, recent, depth, frame, r, pointers, i,
-            ),
+    match fetch(view, words, r.domain, r.segment, r.word) {
+        Err(refusal) => stay(r, Event::Faulted(refusal)),
+        Ok(w) => match decode(w) {
+            Err(refusal) => stay(r, Event::Faulted(refusal)),
+            Ok(i) => perform(view, words, recent, r, pointers, i),
         },
     }
 }

@@ -13,11 +13,12 @@ ghost use Rattle.references.specs.Made.{made_read, made_write, renewed_all};
 
 use crate::cycle::{Cycle, Event};
 use crate::made::note;
-use memory::{WordAnswer, read, write};
+use memory::{read, write};
 use pointer_registers::stack_of;
 use references::flag::Access;
-use state::record::{Frame, Registers};
-use transfers::{CallAnswer, call_way};
+use references::view::View;
+use state::record::Registers;
+use transfers::{Way, call_way};
 use words::arithmetic::{difference, sum};
 use words::pointer::Pointer;
 
@@ -26,12 +27,10 @@ pub fn onward(r: Registers, a: u32, event: Event) -> Cycle
     requires { r.word < 65535 }
     ensures { result ≡ record { registers = moved_registers r a r.segment (r.word + 1); event = event } }
 {
-    let word = r.word + 1;
     let registers = Registers {
         a,
-        word,
-        segment: r.segment,
-        domain: r.domain,
+        word: r.word + 1,
+        ..r
     };
     Cycle { registers, event }
 }
@@ -41,10 +40,9 @@ pub fn go_to(r: Registers, p: Pointer, event: Event) -> Cycle
     ensures { result ≡ record { registers = moved_registers r r.a p.segment p.word; event = event } }
 {
     let registers = Registers {
-        a: r.a,
         word: p.word,
         segment: p.segment,
-        domain: r.domain,
+        ..r
     };
     Cycle { registers, event }
 }
@@ -53,13 +51,10 @@ pub fn go_to(r: Registers, p: Pointer, event: Event) -> Cycle
 pub fn stay(r: Registers, event: Event) -> Cycle
     ensures { result ≡ record { registers = r; event = event } }
 {
-    let registers = Registers {
-        a: r.a,
-        word: r.word,
-        segment: r.segment,
-        domain: r.domain,
-    };
-    Cycle { registers, event }
+    Cycle {
+        registers: r,
+        event,
+    }
 }
 
 // What LOAD, ADD and SUB make of A and a word.
@@ -76,87 +71,66 @@ pub fn operate(opcode: u8, a: u32, w: u32) -> u32
 }
 
 // LOAD, ADD and SUB; q is the place of the indirect word.
-pub fn load<'a>(
-    lengths: &'a [u16; 16],
-    rights: &'a [u8; 128],
-    bases: &'a [u32; 16],
+pub fn load(
+    view: &View,
     words: &[u32],
     recent: &mut [u8; 160],
-    depth: u8,
-    frame: Frame,
     r: Registers,
     opcode: u8,
     q: Pointer,
     p: Pointer,
 ) -> Cycle
     requires { (r.word < 65535) × Reached q p }
-    ensures cycles { Cycles result (λ ps. loaded r ps opcode (read_of lengths.now rights.now bases.now words.now r.domain (registers_of recent.old) depth frame p)) }
+    ensures cycles { Cycles result (λ ps. loaded r ps opcode (read_of view.now.layout.lengths view.now.layout.rights view.now.bases words.now r.domain (registers_of recent.old) view.now.depth view.now.frame p)) }
     ensures stays { Stays r result }
-    ensures renews { Renews result (registers_of recent.new) (registers_of recent.old) (renewed_all (registers_of recent.old) depth frame (made_read q ∷ made_read p ∷ [])) }
+    ensures renews { Renews result (registers_of recent.new) (registers_of recent.old) (renewed_all (registers_of recent.old) view.now.depth view.now.frame (made_read q ∷ made_read p ∷ [])) }
 {
-    match read(
-        lengths, rights, bases, words, r.domain, recent, depth, frame, p,
-    ) {
-        WordAnswer::Refused(n) => stay(r, Event::Faulted(n)),
-        WordAnswer::Word(w) => {
-            note(recent, depth, frame, q, Access::Read, p);
+    match read(view, words, r.domain, recent, p) {
+        Err(refusal) => stay(r, Event::Faulted(refusal)),
+        Ok(w) => {
+            note(recent, view, q, Access::Read, p);
             onward(r, operate(opcode, r.a, w), Event::Moved)
         }
     }
 }
 
 // STORE and SPP; q is the place of the indirect word.
-pub fn save<'a>(
-    lengths: &'a [u16; 16],
-    rights: &'a [u8; 128],
-    bases: &'a [u32; 16],
+pub fn save(
+    view: &View,
     words: &mut [u32],
     recent: &mut [u8; 160],
-    depth: u8,
-    frame: Frame,
     r: Registers,
     q: Pointer,
     p: Pointer,
     value: u32,
 ) -> Cycle
     requires { (r.word < 65535) × Reached q p }
-    ensures cycles { Cycles result (λ ps. settled lengths.now rights.now bases.now words.old (registers_of recent.old) depth frame r ps no_pointer (store p value)) }
-    ensures words_after { words.new ≡ written_of lengths.now rights.now bases.now words.old r.domain (registers_of recent.old) depth frame p value }
+    ensures cycles { Cycles result (λ ps. settled view.now.layout.lengths view.now.layout.rights view.now.bases words.old (registers_of recent.old) view.now.depth view.now.frame r ps no_pointer (store p value)) }
+    ensures words_after { words.new ≡ written_of view.now.layout.lengths view.now.layout.rights view.now.bases words.old r.domain (registers_of recent.old) view.now.depth view.now.frame p value }
     ensures stays { Stays r result }
-    ensures renews { Renews result (registers_of recent.new) (registers_of recent.old) (renewed_all (registers_of recent.old) depth frame (made_read q ∷ made_write p ∷ [])) }
+    ensures renews { Renews result (registers_of recent.new) (registers_of recent.old) (renewed_all (registers_of recent.old) view.now.depth view.now.frame (made_read q ∷ made_write p ∷ [])) }
 {
-    let n = write(
-        lengths, rights, bases, words, r.domain, recent, depth, frame, p, value,
-    );
-    if n != 0 {
-        return stay(r, Event::Faulted(n));
+    match write(view, words, r.domain, recent, p, value) {
+        Err(refusal) => stay(r, Event::Faulted(refusal)),
+        Ok(()) => {
+            note(recent, view, q, Access::Write, p);
+            onward(r, r.a, Event::Moved)
+        }
     }
-    note(recent, depth, frame, q, Access::Write, p);
-    onward(r, r.a, Event::Moved)
 }
 
 // CALL, up to the argument list.
-pub fn call<'a>(
-    lengths: &'a [u16; 16],
-    gates: &'a [u16; 16],
-    rights: &'a [u8; 128],
-    stacks: &'a [u8; 8],
-    depth: u8,
-    r: Registers,
-    p: Pointer,
-) -> Cycle
-    ensures cycles { Cycles result (λ ps. called r ps (stack_of stacks.now r.domain) p (call_way lengths.now gates.now rights.now r.domain depth p)) }
+pub fn call(view: &View, r: Registers, p: Pointer) -> Cycle
+    ensures cycles { Cycles result (λ ps. called r ps (stack_of view.now.layout.stacks r.domain) p (call_way view.now.layout.lengths view.now.layout.gates view.now.layout.rights r.domain view.now.depth p)) }
     ensures stays { Stays r result }
 {
-    match call_way(lengths, gates, rights, r.domain, depth, p) {
-        CallAnswer::Refused(n) => stay(r, Event::Faulted(n)),
-        CallAnswer::Gate => stay(r, Event::Entering(p)),
-        CallAnswer::Inside => {
-            let stack = stack_of(stacks, r.domain);
+    match call_way(&view.layout, r.domain, view.depth, p) {
+        Err(refusal) => stay(r, Event::Faulted(refusal)),
+        Ok(Way::Gate) => stay(r, Event::Entering(p)),
+        Ok(Way::Inside) => {
             let base = Pointer {
-                word: 0,
-                segment: stack,
-                tag: false,
+                segment: stack_of(&view.layout.stacks, r.domain),
+                ..Pointer::NOWHERE
             };
             go_to(r, p, Event::Pointed(2, base))
         }

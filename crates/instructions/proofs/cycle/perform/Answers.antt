@@ -1,6 +1,6 @@
 -- `instructions::cycle::perform` meets its contract.
 use mathlib.Core.Path.{◌≡◌, refl, sym, ap, ◌∙◌, subst}
-use Rattle.words.specs.PointerWord.{pointer_answer}
+use Rattle.words.specs.Refusal.{answer}
 use Rattle.words.specs.declared.pointer.Pointer.{Pointer}
 use Rattle.lent_registers.specs.Columns.{registers_of}
 use borrow.Author.Tests.{eq-eqb, ne_eqb}
@@ -26,14 +26,14 @@ returns-then-opcode-eq12 c =
 
 pub effect-requires : goal.effect-requires
 effect-requires c =
-    (c.requires, λ t. ap (λ (x : Pointer). x.tag) c.indirect_place.ensures ∙ effective-reached _ _ _ _ (sym c.effective.ensures ∙ ap pointer_answer c.in-Pointer.is) t)
+    (c.requires, λ t. ap (λ (x : Pointer). x.tag) c.indirect_place.ensures ∙ effective-reached _ _ _ _ (sym c.effective.ensures ∙ ap answer c.in-Ok.is) t)
 
-pub returns-in-Refused : goal.returns-in-Refused
+pub returns-in-Err : goal.returns-in-Err
 unfolding execute_of made_by renewed_all
-returns-in-Refused c =
-    simp (ne_eqb _ _ c.if-opcode-eq0.false, ne_eqb _ _ c.if-opcode-eq12.false, ← c.effective.ensures, c.in-Refused.is) (record { result_value = ap (cycle_answer _) c.stay-in-Refused.ensures; words_after = refl; stays = subst (Stays _) (sym c.stay-in-Refused.ensures) refl; recent_after = stay-recent _ _ _ _ _ _ c.stay-in-Refused.ensures refl })
+returns-in-Err c =
+    simp (ne_eqb _ _ c.if-opcode-eq0.false, ne_eqb _ _ c.if-opcode-eq12.false, ← c.effective.ensures, c.in-Err.is) (record { result_value = ap (cycle_answer _) c.stay-in-Err.ensures; words_after = refl; stays = subst (Stays _) (sym c.stay-in-Err.ensures) refl; recent_after = stay-recent _ _ _ _ _ _ c.stay-in-Err.ensures refl })
 
-pub returns-in-Pointer : goal.returns-in-Pointer
+pub returns-in-Ok : goal.returns-in-Ok
 unfolding execute_of made_by made_at renewed_all
-returns-in-Pointer c =
-    simp (ne_eqb _ _ c.if-opcode-eq0.false, ne_eqb _ _ c.if-opcode-eq12.false, ← c.effective.ensures, c.in-Pointer.is) (rw c.indirect_place.ensures at c.effect.ensures)
+returns-in-Ok c =
+    simp (ne_eqb _ _ c.if-opcode-eq0.false, ne_eqb _ _ c.if-opcode-eq12.false, ← c.effective.ensures, c.in-Ok.is) (rw c.indirect_place.ensures at c.effect.ensures)
