@@ -3,8 +3,8 @@ use Prim.Native.Nat.{ℕ, suc, ◌+◌, ◌-◌, ◌<◌, ◌≤◌}
 use native.Mathlib.Omega.{arith}
 use mathlib.Core.List.{List}
 use mathlib.Core.Path.{◌≡◌, refl, sym, ap, ◌∙◌}
-use lib.ListN.{length, set, length-set}
-use Rattle.words.specs.Answer.{Answer, refuse, ok, ◌>>=◌}
+use lib.ListN.{length, length-set}
+use Rattle.words.specs.Answer.{Answer, refuse, ok}
 use Rattle.words.specs.declared.pointer.Pointer.{Pointer}
 use Rattle.state.specs.declared.record.Frame.{Frame}
 use Rattle.state.specs.declared.record.Register.{Register}
@@ -13,6 +13,8 @@ use Rattle.references.specs.Reference.{reference_of}
 use Rattle.references.specs.declared.flag.Access.TheVariants as access
 use Rattle.instructions.specs.declared.cycle.Event.{Event}
 use Rattle.instructions.specs.declared.cycle.Event.TheVariants as event
+use Rattle.instructions.specs.Stages.{stage_of}
+use Rattle.instructions.specs.Stages as stage
 use Rattle.memory.specs.Reader.{stored, written_of}
 use Rattle.instructions.specs.Plan.{Plan, halt, move, store, enter, leave}
 use Rattle.instructions.specs.Cycle.{Progress, moved, event_answer, settled_words, planned, cycle_of, cycle_words, cycle_recent}
@@ -76,7 +78,7 @@ module _ (lengths gates rights stacks bases : List ℕ) (depth : ℕ) (frame : F
     abbrev cycle : Answer Progress
     cycle = cycle_of lengths gates rights stacks bases words recent depth frame r ps
 
-    pub spent : limit ≤ n → whole ≡ paused r ps words recent n event.Moved
+    pub spent : limit ≤ n → whole ≡ paused r ps words recent n stage.Moved
     unfolding local_from
     spent h = l.rest ∙ ap (λ (k : ℕ). local_from lengths gates rights stacks bases depth frame k n r ps words recent) (let z : limit - n ≡ 0 = omega arith in z)
 
@@ -94,11 +96,11 @@ module _ (lengths gates rights stacks bases : List ℕ) (depth : ℕ) (frame : F
           }
 
       -- an instruction that does not
-      pub pauses : (s : Registers) (e : Event) → event_answer s ps e ≡ cycle → Stops e → whole ≡ paused r ps after renewal n e
+      pub pauses : (s : Registers) (e : Event) → event_answer s ps e ≡ cycle → Stops e → whole ≡ paused r ps after renewal n (stage_of e)
       pauses s e h stops = next ∙ ap (after_cycle (local_from lengths gates rights stacks bases depth frame (limit - (n + 1)) (n + 1)) n r ps after renewal) (sym h) ∙ by e stops
         where
           by : (x : Event) → Stops x
-              → after_cycle (local_from lengths gates rights stacks bases depth frame (limit - (n + 1)) (n + 1)) n r ps after renewal (event_answer s ps x) ≡ paused r ps after renewal n x
+              → after_cycle (local_from lengths gates rights stacks bases depth frame (limit - (n + 1)) (n + 1)) n r ps after renewal (event_answer s ps x) ≡ paused r ps after renewal n (stage_of x)
           by event.Moved o = absurd o
           by (event.Pointed i p) o = absurd o
           by event.Halted o = refl

@@ -4,11 +4,12 @@
 
 ghost use Rattle.std.specs.Prelude.{◌≡◌, ◌-◌};
 ghost use Rattle.lent_registers.specs.Columns.{registers_of};
-ghost use Rattle.local_runs.specs.LocalRun.{local_from};
+ghost use Rattle.local_runs.specs.LocalRun.{stop_of, local_from};
 
 use instructions::cycle::{Event, run_cycle};
 use pointer_registers::with_pointer;
-use state::record::{Frame, Registers};
+use references::view::View;
+use state::record::Registers;
 use words::pointer::Pointer;
 
 // Where a local run pauses: before the instruction that the event tells, or at the limit (Moved), after count completed ones.
@@ -21,24 +22,18 @@ pub struct Pause {
 }
 
 // Instructions from the one after `from` completed ones on, up to the limit. The frame is the live one: it changes at a crossing only. The registers lie in locals of their own, so that each is kept in a register.
-pub fn run_local<'a>(
-    lengths: &'a [u16; 16],
-    gates: &'a [u16; 16],
-    rights: &'a [u8; 128],
-    stacks: &'a [u8; 8],
-    bases: &'a [u32; 16],
+pub fn run_local(
+    view: &View,
     words: &mut [u32],
     recent: &mut [u8; 160],
-    depth: u8,
-    frame: Frame,
     from: u16,
     limit: u16,
     r: Registers,
     ps: [Pointer; 8],
 ) -> Pause
-    ensures value { result ≡ (local_from lengths.now gates.now rights.now stacks.now bases.now depth frame (limit - from) from r ps words.old (registers_of recent.old)).pause }
-    ensures words_after { words.new ≡ (local_from lengths.now gates.now rights.now stacks.now bases.now depth frame (limit - from) from r ps words.old (registers_of recent.old)).words }
-    ensures recent_after { registers_of recent.new ≡ (local_from lengths.now gates.now rights.now stacks.now bases.now depth frame (limit - from) from r ps words.old (registers_of recent.old)).recent }
+    ensures value { stop_of result ≡ (local_from view.now.layout.lengths view.now.layout.gates view.now.layout.rights view.now.layout.stacks view.now.bases view.now.depth view.now.frame (limit - from) from r ps words.old (registers_of recent.old)).stop }
+    ensures words_after { words.new ≡ (local_from view.now.layout.lengths view.now.layout.gates view.now.layout.rights view.now.layout.stacks view.now.bases view.now.depth view.now.frame (limit - from) from r ps words.old (registers_of recent.old)).words }
+    ensures recent_after { registers_of recent.new ≡ (local_from view.now.layout.lengths view.now.layout.gates view.now.layout.rights view.now.layout.stacks view.now.bases view.now.depth view.now.frame (limit - from) from r ps words.old (registers_of recent.old)).recent }
 {
     let mut a = r.a;
     let mut word = r.word;
@@ -48,15 +43,9 @@ pub fn run_local<'a>(
     let mut n = from;
     while n < limit {
         let t = run_cycle(
-            lengths,
-            gates,
-            rights,
-            stacks,
-            bases,
+            view,
             words,
             recent,
-            depth,
-            frame,
             Registers {
                 a,
                 word,

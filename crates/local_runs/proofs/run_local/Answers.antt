@@ -1,5 +1,4 @@
 -- `local_runs::run_local` meets its contract.
-use Prim.Native.Nat.{◌-◌}
 use native.Mathlib.Omega.{arith}
 use mathlib.Core.Path.{sym, ap, ◌∙◌}
 use mathlib.Core.List.{List}
@@ -46,10 +45,10 @@ returns-in_default c =
     let x = c.run_cycle-t.result.event in
     let s = stops x c.in_default.not-Moved c.in_default.not-Pointed in
     let e = pauses _ _ _ _ _ _ _ _ _ _ _ _ _ _ _ _ _ _ c.loop-n.invariant c.loop-n-test.true _ x c.run_cycle-t.ensures.result_value s in
-    record { value = sym (ap (λ (q : Paused). q.pause) e); words_after = c.run_cycle-t.ensures.words_after ∙ sym (ap (λ (q : Paused). q.words) e); recent_after = c.run_cycle-t.ensures.recent_after ∙ sym (ap (λ (q : Paused). q.recent) e) }
+    record { value = sym (ap (λ (q : Paused). q.stop) e); words_after = c.run_cycle-t.ensures.words_after ∙ sym (ap (λ (q : Paused). q.words) e); recent_after = c.run_cycle-t.ensures.recent_after ∙ sym (ap (λ (q : Paused). q.recent) e) }
 
 pub shape_of-words : goal.shape_of-words
 shape_of-words c = c.loop-n.invariant.same
 
 pub returns : goal.returns
-returns c = let e = spent _ _ _ _ _ _ _ _ _ _ _ _ _ _ _ _ _ _ c.loop-n.invariant c.loop-n-test.false in record { value = sym (ap (λ (x : Paused). x.pause) e); words_after = sym (ap (λ (x : Paused). x.words) e); recent_after = sym (ap (λ (x : Paused). x.recent) e) }
+returns c = let e = spent _ _ _ _ _ _ _ _ _ _ _ _ _ _ _ _ _ _ c.loop-n.invariant c.loop-n-test.false in record { value = sym (ap (λ (x : Paused). x.stop) e); words_after = sym (ap (λ (x : Paused). x.words) e); recent_after = sym (ap (λ (x : Paused). x.recent) e) }

@@ -10,7 +10,7 @@ abbrev held : ℕ → ℕ → ℕ → ℕ → Registers
 held a word segment domain = record { a = a; word = word; segment = segment; domain = domain }
 
 abbrev pub invariant-loop-n : goal.invariant-loop-n
-invariant-loop-n l = Local l.lengths l.gates l.rights l.stacks l.bases l.depth l.frame l.limit l.from (held l.initial.a l.initial.word l.initial.segment l.initial.domain) l.initial.pointers l.initial.words (registers_of l.initial.recent) l.n (held l.a l.word l.segment l.domain) l.pointers l.words (registers_of l.recent)
+invariant-loop-n l = Local l.view.layout.lengths l.view.layout.gates l.view.layout.rights l.view.layout.stacks l.view.bases l.view.depth l.view.frame l.limit l.from (held l.initial.a l.initial.word l.initial.segment l.initial.domain) l.initial.pointers l.initial.words (registers_of l.initial.recent) l.n (held l.a l.word l.segment l.domain) l.pointers l.words (registers_of l.recent)
 
 abbrev pub decreases-loop-n : goal.decreases-loop-n
 decreases-loop-n l = l.limit - l.n
