@@ -1,5 +1,5 @@
--- The test of equality of two capabilities is equality.
-use mathlib.Core.Bool.{Bool, true, false}
+-- The test of equality of two capabilities is equality, and what the derived == computes.
+use mathlib.Core.Bool.{Bool, true, false, ◌&&◌, beq}
 use mathlib.Core.Path.{◌≡◌, refl}
 use borrow.Author.Tests.{eqb-true, eq-eqb}
 use lib.Dec.{eqb}
@@ -39,3 +39,14 @@ same_self c =
     flag : (b : Bool) → same_flag b b ≡ true
     flag true = refl
     flag false = refl
+
+beq-same : (a b : Bool) → beq a b ≡ same_flag a b
+beq-same true true = refl
+beq-same true false = refl
+beq-same false true = refl
+beq-same false false = refl
+
+pub derived-same : (c d : Capability)
+    → (eqb c.word d.word && (eqb c.length d.length && (eqb c.segment d.segment && (eqb c.source d.source && (beq c.read d.read && beq c.write d.write))))) ≡ same c d
+unfolding same
+derived-same c d = simp (beq-same c.read d.read, beq-same c.write d.write)

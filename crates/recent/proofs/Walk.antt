@@ -1,12 +1,11 @@
 -- A test of a list, as a loop over an array comes to it.
 use Prim.Native.Nat.{ℕ, ◌+◌, ◌<◌, ◌≤◌}
-use native.Mathlib.Omega.{arith}
 use native.Mathlib.Numerals.{add-one}
-use mathlib.Core.Path.{◌≡◌, ◌∙◌, ap}
+use mathlib.Core.Path.{◌≡◌, ◌∙◌, ap, sym}
 use mathlib.Core.List.{List, [], ◌∷◌}
 use mathlib.Core.Bool.{Bool}
-use lib.ListN.{length, get_or, take, drop, drop_of_length-le, length-take}
-use lib.Seq.{drop-cons, get_or-take}
+use lib.ListN.{length, get_or, drop, drop_of_length-le}
+use lib.Seq.{drop-cons}
 
 -- the answer is the test of the elements from place i on
 pub record Left {A : Type 0} (test : List A → Bool) (answer : Bool) (xs : List A) (i : ℕ) : Type 0 where
@@ -20,20 +19,6 @@ module _ {A : Type 0} {test : List A → Bool} {answer : Bool} {xs : List A} {i 
   pub ended : length xs ≤ i → answer ≡ test []
   ended h = l.rest ∙ ap test (drop_of_length-le xs {i = i} h)
 
--- the same over the first n elements of an array
-pub record LeftOf {A : Type 0} (test : List A → Bool) (answer : Bool) (xs : List A) (n i : ℕ) : Type 0 where
-  pub most : i ≤ n
-  pub rest : answer ≡ test (drop i (take n xs))
-
-module _ {A : Type 0} {test : List A → Bool} {answer : Bool} {xs : List A} {n i : ℕ} (none : A) (l : LeftOf test answer xs n i) where
-  left : Left test answer (take n xs) i
-  left = record { rest = l.rest }
-
-  pub next_of : i < n → i < length xs → answer ≡ test (get_or xs i none ∷ drop (i + 1) (take n xs))
-  next_of h m = next none left (omega (arith, length-take n xs)) ∙ ap (λ (x : A). test (x ∷ drop (i + 1) (take n xs))) (get_or-take n xs i none h)
-
-  pub ended-count : n ≤ i → answer ≡ test []
-  ended-count h = ended none left (omega (arith, length-take n xs))
-
-  pub ended-array : length xs ≤ i → answer ≡ test []
-  ended-array h = ended none left (omega (arith, length-take n xs))
+-- the element at place i, as an iterator gives it
+pub next_item : {A : Type 0} {test : List A → Bool} {answer : Bool} {xs : List A} {i : ℕ} → Left test answer xs i → (x : A) → (i < length xs) × (x ≡ get_or xs i x) → answer ≡ test (x ∷ drop (i + 1) xs)
+next_item {test = test} {xs = xs} {i = i} l x h = next x l h.0 ∙ ap (λ y. test (y ∷ drop (i + 1) xs)) (sym h.1)

@@ -1,5 +1,5 @@
 -- The sixteen registers (an associative memory), and what a match, an entry and a return make of them.
-use Rattle.std.specs.Prelude.{ℕ, zero, suc, ◌+◌, ◌-◌, Bool, List, [], ◌∷◌, map, eqb, ltb, get_or, take, if◌then◌else◌}
+use Rattle.std.specs.Prelude.{ℕ, zero, suc, ◌+◌, ◌-◌, List, [], ◌∷◌, map, eqb, ltb, get_or, take, if◌then◌else◌}
 use Rattle.words.specs.Bit.{bit}
 use Rattle.state.specs.declared.record.Capability.{Capability}
 use Rattle.state.specs.declared.record.Frame.{Frame}

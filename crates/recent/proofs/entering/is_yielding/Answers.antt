@@ -1,12 +1,12 @@
 -- `recent::entering::is_yielding` meets its contract.
-use borrow.Author.Tests.{eq-eqb, ne_eqb}
+use Rattle.std.proofs.Common.{rules, tests}
 use Rattle.recent.specs.Entering.{yields}
 use Rattle.recent.proofs.entering.is_yielding.Goals as goal
 
 pub returns-then-earlier-c : goal.returns-then-earlier-c
 unfolding yields
-returns-then-earlier-c c = simp (eq-eqb _ _ c.if-earlier-c.true)
+returns-then-earlier-c c = search (rules, tests)
 
-pub returns : goal.returns
+pub returns-else-earlier-c : goal.returns-else-earlier-c
 unfolding yields
-returns c = simp (ne_eqb _ _ c.before.if-earlier-c.false, ← c.share.ensures)
+returns-else-earlier-c c = search (rules, tests)

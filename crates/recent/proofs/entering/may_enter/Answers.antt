@@ -1,56 +1,45 @@
 -- `recent::entering::may_enter` meets its contract.
-use Prim.Native.Nat.{◌-◌}
-use mathlib.Core.Path.{◌≡◌, sym, refl, ◌∙◌}
-use borrow.Author.Rules.{rules}
-use lib.ListN.{length}
+use Rattle.std.proofs.Common.{◌∙◌, sym, refl, arith}
+use Rattle.std.proofs.lemmas.Iterator.{YieldsList-from_slice, YieldsList-from_take}
+use Rattle.std.proofs.lemmas.Iterator.Consumers.{YieldsList-at, YieldsList-turn, YieldsList-end}
+use Rattle.std.proofs.lemmas.List.{length_push}
 use Rattle.state.specs.Record.{no_capability}
 use Rattle.recent.specs.Entering.{may_enter}
 use Rattle.recent.proofs.Logic.{pass, stop, in_then, in-else, answered-true, answered-false}
-use Rattle.recent.proofs.Walk.{next_of, ended-count, ended-array}
+use Rattle.recent.proofs.Same.{derived-same}
+use Rattle.recent.proofs.Walk.{next_item, ended}
 use Rattle.recent.proofs.entering.may_enter.Goals as goal
-use Rattle.recent.proofs.entering.may_enter.Goals.{Start}
 
--- a frame has nine rows
-rows : (s : Start) → length s.args.capabilities ≡ 9
-rows s = s.well_formed.0.1.0.1
+pub loop-x-init : goal.loop-x-init
+loop-x-init c = (tt, tt, record { rest = refl })
 
-pub loop-i-init : goal.loop-i-init
-loop-i-init c = record { most = search rules; rest = refl }
-
-pub returns-then-i-ge9 : goal.returns-then-i-ge9
+pub returns-then-eq : goal.returns-then-eq
 unfolding may_enter
-returns-then-i-ge9 c = let l = c.before.before in sym (ended-array no_capability l.loop-i.invariant (rw (rows l.before) c.if-i-ge9.true))
-
-pub returns-then-same_capability : goal.returns-then-same_capability
-unfolding may_enter
-returns-then-same_capability c =
-    let e = c.before.before.before in
-    let l = e.before.before in
-    in_then _ (sym c.before.same_capability.ensures ∙ c.if-same_capability.true) refl ∙
-    sym (next_of no_capability l.loop-i.invariant e.before.loop-i-test.true (rw (rows l.before) e.if-i-ge9.false))
+returns-then-eq c =
+    let rows = YieldsList-at c.into_iter-x-iterator.ensures.into_iter_gives (YieldsList-from_take c.args.count (YieldsList-at c.take-x-items.ensures.source (YieldsList-from_slice c.args.capabilities (cc))) (cc)) in
+    let t = YieldsList-turn rows c.loop-x.yielded _ c.loop-x.yielded_by _ _ c.in-Some.field-0 c.in-Some.is c.next.ensures.steps in
+    in_then _ (sym (derived-same c.in-Some.field-0.now c.args.c) ∙ sym c.eq.ensures ∙ c.if-eq.true) refl ∙ sym (next_item c.loop-x.invariant.2 c.in-Some.field-0.now t)
 
 pub returns-then-not-is_yielding : goal.returns-then-not-is_yielding
 unfolding may_enter
 returns-then-not-is_yielding c =
-    let s = c.before.before in
-    let e = s.before.before.before in
-    let l = e.before.before in
-    in-else _ (sym s.before.same_capability.ensures ∙ s.if-same_capability.false) (stop _ (answered-false c.before.is_yielding.ensures c.if-not-is_yielding.true)) ∙
-    sym (next_of no_capability l.loop-i.invariant e.before.loop-i-test.true (rw (rows l.before) e.if-i-ge9.false))
+    let rows = YieldsList-at c.into_iter-x-iterator.ensures.into_iter_gives (YieldsList-from_take c.args.count (YieldsList-at c.take-x-items.ensures.source (YieldsList-from_slice c.args.capabilities (cc))) (cc)) in
+    let t = YieldsList-turn rows c.loop-x.yielded _ c.loop-x.yielded_by _ _ c.in-Some.field-0 c.in-Some.is c.next.ensures.steps in
+    in-else _ (sym (derived-same c.in-Some.field-0.now c.args.c) ∙ sym c.eq.ensures ∙ c.if-eq.false) (stop _ (answered-false c.is_yielding.ensures c.if-not-is_yielding.true)) ∙
+    sym (next_item c.loop-x.invariant.2 c.in-Some.field-0.now t)
 
-pub loop-i-preserved : goal.loop-i-preserved
+pub loop-x-preserved : goal.loop-x-preserved
 unfolding may_enter
-loop-i-preserved c =
-    let s = c.before.before in
-    let e = s.before.before.before in
-    let l = e.before.before in
-    record {
-      most = search rules;
-      rest =
-          next_of no_capability l.loop-i.invariant e.before.loop-i-test.true (rw (rows l.before) e.if-i-ge9.false) ∙
-          sym (in-else _ (sym s.before.same_capability.ensures ∙ s.if-same_capability.false) (pass (answered-true c.before.is_yielding.ensures c.if-not-is_yielding.false) refl));
-    }
+loop-x-preserved c =
+    let rows = YieldsList-at c.into_iter-x-iterator.ensures.into_iter_gives (YieldsList-from_take c.args.count (YieldsList-at c.take-x-items.ensures.source (YieldsList-from_slice c.args.capabilities (cc))) (cc)) in
+    let t = YieldsList-turn rows c.loop-x.yielded _ c.loop-x.yielded_by _ _ c.in-Some.field-0 c.in-Some.is c.next.ensures.steps in
+    let e = next_item c.loop-x.invariant.2 c.in-Some.field-0.now t ∙
+    sym (in-else _ (sym (derived-same c.in-Some.field-0.now c.args.c) ∙ sym c.eq.ensures ∙ c.if-eq.false) (pass (answered-true c.is_yielding.ensures c.if-not-is_yielding.false) refl)) in
+    (tt, tt, rw (length_push c.loop-x.yielded c.in-Some.field-0) (record { rest = e }))
 
 pub returns : goal.returns
 unfolding may_enter
-returns c = sym (ended-count no_capability c.before.loop-i.invariant c.loop-i-test.false)
+returns c =
+    let rows = YieldsList-at c.into_iter-x-iterator.ensures.into_iter_gives (YieldsList-from_take c.args.count (YieldsList-at c.take-x-items.ensures.source (YieldsList-from_slice c.args.capabilities (cc))) (cc)) in
+    let t = YieldsList-end rows c.loop-x.yielded _ c.loop-x.yielded_by _ _ c.in-None.is c.next.ensures.steps in
+    sym (ended no_capability c.loop-x.invariant.2 (omega (arith, t.1)))

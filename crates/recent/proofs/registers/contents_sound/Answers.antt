@@ -9,20 +9,12 @@ use lib.Dec.{leb}
 use lib.ListN.{length, get_or, get_or-eq_default}
 use Rattle.state.specs.declared.record.Frame.{Frame}
 use Rattle.state.specs.declared.record.Register.{Register}
-use Rattle.state.specs.Record.{no_capability, no_frame}
+use Rattle.state.specs.Record.{no_frame, no_register}
 use Rattle.recent.specs.Entering.{may_enter}
-use Rattle.recent.specs.Registers.{register}
 use Rattle.recent.specs.SoundRegisters.{register_test, contents_test, frame_of_register}
 use Rattle.recent.proofs.Logic.{pass, stop, answered-true, answered-false}
 use Rattle.recent.proofs.Walk.{next, ended}
 use Rattle.recent.proofs.registers.contents_sound.Goals as goal
-use Rattle.recent.proofs.registers.contents_sound.Goals.{Start}
-
-eight : (s : Start) → length s.args.frames ≡ 8
-eight s = s.well_formed.1.0.1.0.1
-
-sixteen : (s : Start) → length s.args.recent ≡ 16
-sixteen s = s.well_formed.1.1.0.1.0.1
 
 -- the frames have no row that the register names
 nameless : (depth : ℕ) (fs : List Frame) (r : Register) → length fs ≡ 8 → 8 ≤ r.frame - 1 → register_test depth (frame_of_register fs r) r ≡ false
@@ -34,50 +26,41 @@ nameless depth fs r e h =
     none true = refl
     none false = refl
 
-abbrev none : Register
-none = register no_capability 0 0
+-- the register of a slice that is the array, and the row that it names
+named : (depth : ℕ) (fs : List Frame) (xs rs : List Register) (i k : ℕ) → xs ≡ rs → k ≡ (get_or xs i no_register).frame - 1
+    → register_test depth (get_or fs k no_frame) (get_or xs i no_register) ≡ register_test depth (frame_of_register fs (get_or rs i no_register)) (get_or rs i no_register)
+named depth fs xs rs i k e q =
+    ap (λ (n : ℕ). register_test depth (get_or fs n no_frame) (get_or xs i no_register)) q ∙
+    ap (λ (ys : List Register). register_test depth (frame_of_register fs (get_or ys i no_register)) (get_or ys i no_register)) e
 
--- register i
-abbrev at : Start → ℕ → Register
-at s i = get_or s.args.recent i none
-
--- row k is that of the frame that register i names
-named : (s : Start) (i : ℕ) {k : ℕ} → k ≡ (at s i).frame - 1
-    → register_test s.args.depth (get_or s.args.frames k no_frame) (at s i) ≡ register_test s.args.depth (frame_of_register s.args.frames (at s i)) (at s i)
-named s i e = ap (λ k. register_test s.args.depth (get_or s.args.frames k no_frame) (at s i)) e
+pub loop-r-init : goal.loop-r-init
+loop-r-init c = record { rest = refl }
 
 pub returns-then-k-ge8 : goal.returns-then-k-ge8
 unfolding contents_test
 returns-then-k-ge8 c =
-    let e = c.before.before.before in
-    let l = e.before in
-    stop _ (nameless l.before.args.depth l.before.args.frames (at l.before l.loop-i.i) (eight l.before) (rw (← c.before.row_of-k.ensures) c.if-k-ge8.true)) ∙
-    sym (next none l.loop-i.invariant (rw (sixteen l.before) e.loop-i-test.true))
+    let far : 8 ≤ (get_or c.args.recent c.loop-r.r-index no_register).frame - 1 =
+    omega (arith, c.if-k-ge8.true, c.from-k.ensures, c.saturating_sub.ensures, ap (λ (ys : List Register). (get_or ys c.loop-r.r-index no_register).frame) c.as_slice-r-items.ensures) in
+    stop _ (nameless c.args.depth c.args.frames _ c.well_formed.1.0.1.0.1 far) ∙
+    sym (next no_register c.loop-r.invariant (omega (arith, c.loop-r-test.true, ap length c.as_slice-r-items.ensures)))
 
 pub returns-then-not-register_sound : goal.returns-then-not-register_sound
 unfolding contents_test
 returns-then-not-register_sound c =
-    let w = c.before.before.before.before in
-    let e = w.before.before in
-    let l = e.before in
-    stop _ (answered-false (c.before.register_sound.ensures ∙ named l.before l.loop-i.i w.row_of-k.ensures) c.if-not-register_sound.true) ∙
-    sym (next none l.loop-i.invariant (rw (sixteen l.before) e.loop-i-test.true))
+    let test = named c.args.depth c.args.frames _ _ c.loop-r.r-index _ c.as_slice-r-items.ensures (c.from-k.ensures ∙ c.saturating_sub.ensures) in
+    stop _ (answered-false (c.register_sound.ensures ∙ test) c.if-not-register_sound.true) ∙
+    sym (next no_register c.loop-r.invariant (omega (arith, c.loop-r-test.true, ap length c.as_slice-r-items.ensures)))
 
-pub loop-i-preserved : goal.loop-i-preserved
+pub loop-r-preserved : goal.loop-r-preserved
 unfolding contents_test
-loop-i-preserved c =
-    let w = c.before.before.before.before in
-    let e = w.before.before in
-    let l = e.before in
+loop-r-preserved c =
+    let test = named c.args.depth c.args.frames _ _ c.loop-r.r-index _ c.as_slice-r-items.ensures (c.from-k.ensures ∙ c.saturating_sub.ensures) in
     record {
       rest =
-          next none l.loop-i.invariant (rw (sixteen l.before) e.loop-i-test.true) ∙
-          sym (pass (answered-true (c.before.register_sound.ensures ∙ named l.before l.loop-i.i w.row_of-k.ensures) c.if-not-register_sound.false) refl);
+          next no_register c.loop-r.invariant (omega (arith, c.loop-r-test.true, ap length c.as_slice-r-items.ensures)) ∙
+          sym (pass (answered-true (c.register_sound.ensures ∙ test) c.if-not-register_sound.false) refl);
     }
 
 pub returns : goal.returns
 unfolding contents_test
-returns c = let l = c.before in sym (ended none l.loop-i.invariant (rw (sixteen l.before) c.loop-i-test.false))
-
-pub loop-i-init : goal.loop-i-init
-loop-i-init c = record { rest = refl }
+returns c = sym (ended no_register c.loop-r.invariant (omega (arith, c.loop-r-test.false, ap length c.as_slice-r-items.ensures)))

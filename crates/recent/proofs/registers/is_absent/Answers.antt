@@ -1,41 +1,21 @@
 -- `recent::registers::is_absent` meets its contract.
-use Prim.Native.Nat.{◌-◌}
-use mathlib.Core.Path.{◌≡◌, sym, refl, ap, ◌∙◌}
-use mathlib.Core.Bool.{not}
-use borrow.Author.Tests.{eq-eqb, ne_eqb}
-use lib.ListN.{length}
+use Rattle.std.proofs.Common.{◌≡◌, ◌∙◌, refl, ap, drop, rules, tests, ℕ, Bool, not, nat_eq, List, [], ◌∷◌, ◌&&◌}
+use Rattle.std.specs.List.{list_all}
+use Rattle.std.proofs.lemmas.Iterator.{YieldsList-from_slice}
+use Rattle.std.proofs.lemmas.Iterator.Adapters.{YieldsList-from_skip}
+use Rattle.std.proofs.lemmas.Iterator.Consumers.{YieldsList-at}
+use Rattle.std.proofs.lemmas.Iterator.Search.{all_from_yields_List}
 use Rattle.state.specs.declared.record.Register.{Register}
-use Rattle.state.specs.Record.{no_capability}
-use Rattle.recent.specs.Registers.{register}
 use Rattle.recent.specs.SoundRegisters.{absent}
-use Rattle.recent.proofs.Logic.{pass, stop}
-use Rattle.recent.proofs.Walk.{next, ended}
 use Rattle.recent.proofs.registers.is_absent.Goals as goal
-use Rattle.recent.proofs.registers.is_absent.Goals.{Start}
 
-sixteen : (s : Start) → length s.args.recent ≡ 16
-sixteen s = s.well_formed.0.1.0.1
-
-abbrev none : Register
-none = register no_capability 0 0
-
-pub returns-then-r-n : goal.returns-then-r-n
+each_other : (n : ℕ) (rs : List Register) → list_all (λ r. not (nat_eq r.recency n)) rs ≡ absent n rs
 unfolding absent
-returns-then-r-n c =
-    let e = c.before.before.before in
-    let l = e.before in
-    stop _ (ap not (eq-eqb _ _ c.if-r-n.true)) ∙ sym (next none l.loop-i.invariant (rw (sixteen l.before) e.loop-i-test.true))
-
-pub loop-i-preserved : goal.loop-i-preserved
-unfolding absent
-loop-i-preserved c =
-    let e = c.before.before.before in
-    let l = e.before in
-    record { rest = next none l.loop-i.invariant (rw (sixteen l.before) e.loop-i-test.true) ∙ sym (pass (ap not (ne_eqb _ _ c.if-r-n.false)) refl) }
+each_other n [] = refl
+each_other n (r ∷ rs) = ap (λ (b : Bool). not (nat_eq r.recency n) && b) (each_other n rs)
 
 pub returns : goal.returns
-unfolding absent
-returns c = let l = c.before in sym (ended none l.loop-i.invariant (rw (sixteen l.before) c.loop-i-test.false))
-
-pub loop-i-init : goal.loop-i-init
-loop-i-init c = record { rest = refl }
+returns c =
+    let a = c.args in
+    let listed = YieldsList-from_skip a.from (YieldsList-at c.skip.ensures.source (YieldsList-from_slice a.recent (cc))) (cc) in
+    all_from_yields_List (λ r. not (nat_eq r.recency a.n)) _ _ c.all.result c.all.ensures.ran listed (λ x b q k. search (rules, tests)) ∙ each_other a.n (drop a.from a.recent)

@@ -1,12 +1,12 @@
 -- `recent::registers::registers_sound` meets its contract.
+use Rattle.std.proofs.Common.{rules, tests}
 use Rattle.recent.specs.SoundRegisters.{recent_test}
-use Rattle.recent.proofs.Logic.{pass, stop, answered-true, answered-false}
 use Rattle.recent.proofs.registers.registers_sound.Goals as goal
 
-pub returns-then-not-numbers_sound : goal.returns-then-not-numbers_sound
+pub returns-then-numbers_sound : goal.returns-then-numbers_sound
 unfolding recent_test
-returns-then-not-numbers_sound c = stop _ (answered-false c.before.numbers_sound.ensures c.if-not-numbers_sound.true)
+returns-then-numbers_sound c = search (rules, tests)
 
-pub returns : goal.returns
+pub returns-else-numbers_sound : goal.returns-else-numbers_sound
 unfolding recent_test
-returns c = pass (answered-true c.before.before.numbers_sound.ensures c.before.if-not-numbers_sound.false) c.contents_sound.ensures
+returns-else-numbers_sound c = search (rules, tests)
