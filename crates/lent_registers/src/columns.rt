@@ -10,11 +10,8 @@ pub fn spread(registers: [Register; 16]) -> [u8; 160]
     ensures { registers_of result ≡ registers }
 {
     let mut recent = [0u8; 160];
-    let mut i = 0usize;
-    while i < 16 {
-        let r = registers[i];
-        put(&mut recent, i, r);
-        i += 1;
+    for i in 0..16 {
+        put(&mut recent, i, registers[i]);
     }
     recent
 }
@@ -25,11 +22,8 @@ pub fn gathered(recent: &[u8; 160]) -> [Register; 16]
 {
     let first = register_at(recent, 0);
     let mut registers = [first; 16];
-    let mut i = 0usize;
-    while i < 16 {
-        let r = register_at(recent, i);
-        registers[i] = r;
-        i += 1;
+    for i in 0..16 {
+        registers[i] = register_at(recent, i);
     }
     registers
 }

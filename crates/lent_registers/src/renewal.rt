@@ -36,11 +36,9 @@ fn touch(recent: &mut [u8], old: u8)
     if old == 15 {
         return;
     }
-    let mut i = 0usize;
-    while i < 16 {
+    for i in 0..16 {
         let n = recent[i];
         renumber(recent, i, number_risen(old, n));
-        i += 1;
     }
 }
 
@@ -67,17 +65,9 @@ fn enter(recent: &mut [u8], c: Capability, frame: u8)
         frame,
         recency: 15,
     };
-    let mut i = 0usize;
-    while i < 16 {
+    for i in 0..16 {
         enter_one(recent, i, entry);
-        i += 1;
     }
-}
-
-fn wide(n: u8) -> u16
-    ensures { (result ≡ n) × (result < 256) }
-{
-    n as u16
 }
 
 // The place of register i in the order after a return from a frame.
@@ -85,7 +75,8 @@ fn order(recent: &[u8; 160], i: usize, frame: u8) -> u16
     requires { i < 16 }
     ensures { result ≡ order_of frame (register_at recent.now i) }
 {
-    let n = wide(recent[i]);
+    let recent = recent.as_slice();
+    let n = u16::from(recent[i]);
     if recent[16 + i] == frame { n } else { n + 16 }
 }
 
@@ -94,11 +85,7 @@ fn counted(recent: &[u8; 160], i: usize, frame: u8, place: u16) -> u8
     requires { i < 16 }
     ensures { (result ≡ bit (ltb (order_of frame (register_at recent.now i)) place)) × (result ≤ 1) }
 {
-    if order(recent, i, frame) < place {
-        1
-    } else {
-        0
-    }
+    u8::from(order(recent, i, frame) < place)
 }
 
 // How many registers come before a place of that order.
@@ -106,10 +93,8 @@ fn rank(recent: &[u8; 160], frame: u8, place: u16) -> u8
     ensures { result ≡ before frame place (registers_of recent.now) }
 {
     let mut n = 0u8;
-    let mut i = 0usize;
-    while i < 16 {
+    for i in 0..16 {
         n += counted(recent, i, frame, place);
-        i += 1;
     }
     n
 }
@@ -119,11 +104,9 @@ fn ranks(recent: &[u8; 160], frame: u8) -> [u8; 16]
     ensures { Ranks frame recent.now result }
 {
     let mut numbers = [0u8; 16];
-    let mut i = 0usize;
-    while i < 16 {
+    for i in 0..16 {
         let place = order(recent, i, frame);
         numbers[i] = rank(recent, frame, place);
-        i += 1;
     }
     numbers
 }
@@ -134,16 +117,8 @@ fn clear_one(recent: &mut [u8], i: usize, frame: u8, n: u8)
     ensures { recent.new ≡ cleared_at recent.old i frame n }
 {
     if recent[16 + i] == frame {
-        let c = Capability {
-            word: 0,
-            length: 0,
-            segment: 0,
-            source: 0,
-            read: false,
-            write: false,
-        };
         let empty = Register {
-            capability: c,
+            capability: Capability::NONE,
             frame: 0,
             recency: n,
         };
@@ -158,11 +133,8 @@ fn clear_all(recent: &mut [u8], frame: u8, numbers: [u8; 16])
     requires { (length recent.old ≡ 160) × Ranks frame recent.old numbers }
     ensures { registers_of recent.new ≡ cleared frame (registers_of recent.old) }
 {
-    let mut i = 0usize;
-    while i < 16 {
-        let n = numbers[i];
-        clear_one(recent, i, frame, n);
-        i += 1;
+    for i in 0..16 {
+        clear_one(recent, i, frame, numbers[i]);
     }
 }
 
@@ -206,28 +178,10 @@ pub fn refer(recent: &mut [u8; 160], depth: u8, frame: Frame, segment: u8, word:
 fn row(capabilities: [Capability; 9], n: u8) -> Capability
     ensures { result ≡ get_or capabilities n no_capability }
 {
-    if 9 <= n {
-        return Capability {
-            word: 0,
-            length: 0,
-            segment: 0,
-            source: 0,
-            read: false,
-            write: false,
-        };
-    }
-    let k = n as usize;
-    capabilities[k]
-}
-
-// One less; none of none.
-fn less(n: u8) -> u8
-    ensures { result ≡ n - 1 }
-{
-    if n == 0 {
-        return 0;
-    }
-    n - 1
+    capabilities
+        .get(usize::from(n))
+        .copied()
+        .unwrap_or(Capability::NONE)
 }
 
 // A call that made a frame: its last capability, that of the list, is entered if none of the rows before keeps it out.
@@ -235,7 +189,7 @@ pub fn enter_list(recent: &mut [u8; 160], depth: u8, frame: Frame)
     ensures { registers_of recent.new ≡ listed depth frame (registers_of recent.old) }
 {
     let capabilities = frame.capabilities;
-    let last = less(frame.count);
+    let last = frame.count.saturating_sub(1);
     let c = row(capabilities, last);
     if all_yield(capabilities, last, c) {
         enter(recent, c, depth);

@@ -3,14 +3,11 @@ use mathlib.Core.Path.{refl}
 use Rattle.lent_registers.proofs.Whole.{gathers-on, gathered-all}
 use Rattle.lent_registers.proofs.columns.gathered.Goals as goal
 
--- src/columns.rt:91:5
 pub loop-i-init : goal.loop-i-init
 loop-i-init c = record { within = omega arith; room = refl; taken = λ k h. absurd (omega (arith, h)) }
 
--- src/columns.rt:91:5
 pub loop-i-preserved : goal.loop-i-preserved
-loop-i-preserved c = gathers-on _ _ _ _ c.loop-i-test.true c.loop-i.invariant c.register_at-r.ensures
+loop-i-preserved c = gathers-on _ _ _ _ c.loop-i-test.true c.loop-i.invariant c.register_at.ensures
 
--- src/columns.rt:85:1
 pub returns : goal.returns
 returns c = gathered-all _ _ _ c.loop-i-test.false c.loop-i.invariant

@@ -1,12 +1,11 @@
-use native.Mathlib.Omega.{arith}
-use mathlib.Core.Path.{sym, refl}
-use borrow.Author.Tests.{lt-ltb, le-ltb}
+-- `lent_registers::renewal::counted` meets its contract.
+use mathlib.Core.Path.{ap, ◌∙◌}
+use lib.Dec.{ltb}
+use Rattle.words.specs.Bit.{bit}
+use Rattle.lent_registers.proofs.Bytes.{byte-bit, bit-most}
 use Rattle.lent_registers.proofs.renewal.counted.Goals as goal
 
--- src/renewal.rt:93:1
-pub returns-then-order-place : goal.returns-then-order-place
-returns-then-order-place c = (rw (sym c.order.ensures, lt-ltb _ _ c.if-order-place.true) refl, omega arith)
-
--- src/renewal.rt:93:1
-pub returns-else-order-place : goal.returns-else-order-place
-returns-else-order-place c = (rw (sym c.order.ensures, le-ltb _ _ c.if-order-place.false) refl, omega arith)
+pub returns : goal.returns
+returns c =
+    let e = c.from.ensures ∙ byte-bit (ltb c.order.result c.args.place) in
+    (e ∙ ap (λ n. bit (ltb n c.args.place)) c.order.ensures, rw e (bit-most (ltb c.order.result c.args.place)))

@@ -1,10 +1,8 @@
 use borrow.Author.Tests.{eq-eqb, ne_eqb}
 use Rattle.lent_registers.proofs.renewal.enter_one.Goals as goal
 
--- src/renewal.rt:58:1
 pub returns-then-n-eq0 : goal.returns-then-n-eq0
 returns-then-n-eq0 c = rw (eq-eqb _ _ c.if-n-eq0.true) c.put.ensures
 
--- src/renewal.rt:58:1
 pub returns-else-n-eq0 : goal.returns-else-n-eq0
 returns-else-n-eq0 c = rw (ne_eqb _ _ c.if-n-eq0.false) c.renumber.ensures

@@ -1,16 +1,16 @@
-use Prim.Native.Nat.{◌+◌}
-use mathlib.Core.Path.{ap}
-use borrow.Author.Tests.{eq-eqb, ne_eqb}
-use Rattle.lent_registers.specs.Columns.{register_at}
+-- `lent_registers::renewal::order` meets its contract.
+use Rattle.std.proofs.Common.{rules, tests, ap, ◌∙◌, List, ℕ, get_or, ◌+◌}
+use borrow.Author.Tests.{ne_eqb}
 use Rattle.recent.specs.Registers.{order_of}
+use Rattle.lent_registers.specs.Columns.{register_at}
 use Rattle.lent_registers.proofs.renewal.order.Goals as goal
 
--- src/renewal.rt:74:1
 pub returns-then-recent-i : goal.returns-then-recent-i
-unfolding register_at order_of
-returns-then-recent-i c = rw (eq-eqb _ _ c.if-recent-i.true) c.wide-n.ensures.0
+unfolding order_of register_at
+returns-then-recent-i c = search (rules, tests)
 
--- src/renewal.rt:74:1
 pub returns-else-recent-i : goal.returns-else-recent-i
-unfolding register_at order_of
-returns-else-recent-i c = rw (ne_eqb _ _ c.if-recent-i.false) (ap (λ x. x + 16) c.wide-n.ensures.0)
+unfolding order_of register_at
+returns-else-recent-i c =
+    let e = c.as_slice-recent.ensures in
+    rw (ne_eqb _ _ (λ q. c.if-recent-i.false (ap (λ (xs : List ℕ). get_or xs (16 + c.args.i) 0) e ∙ q))) (ap (λ n. n + 16) (c.from-n.ensures ∙ ap (λ (xs : List ℕ). get_or xs c.args.i 0) e))

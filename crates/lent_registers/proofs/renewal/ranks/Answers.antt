@@ -3,18 +3,14 @@ use mathlib.Core.Path.{refl}
 use Rattle.lent_registers.proofs.Whole.{ranked-on, ranked-all}
 use Rattle.lent_registers.proofs.renewal.ranks.Goals as goal
 
--- src/renewal.rt:129:5
 pub loop-i-init : goal.loop-i-init
 loop-i-init c = record { within = omega arith; room = refl; there = λ k h. absurd (omega (arith, h)) }
 
--- src/renewal.rt:131:22
 pub rank-requires : goal.rank-requires
 rank-requires c = tt
 
--- src/renewal.rt:129:5
 pub loop-i-preserved : goal.loop-i-preserved
 loop-i-preserved c = ranked-on _ _ _ _ _ c.loop-i-test.true c.loop-i.invariant c.order-place.ensures c.rank.ensures
 
--- src/renewal.rt:124:1
 pub returns : goal.returns
 returns c = ranked-all _ _ _ _ c.loop-i-test.false c.loop-i.invariant

@@ -1,8 +1,9 @@
-use lib.ListN.{get_or-eq_default}
-use native.Mathlib.Omega.{arith}
-use mathlib.Core.Path.{sym}
+-- `lent_registers::renewal::row` meets its contract.
+use Rattle.std.proofs.Common.{ap, ◌∙◌, arith, get_or}
+use Rattle.state.specs.Record.{no_capability}
 use Rattle.lent_registers.proofs.renewal.row.Goals as goal
 
--- src/renewal.rt:242:9
-pub returns-then-n-ge9 : goal.returns-then-n-ge9
-returns-then-n-ge9 c = sym (get_or-eq_default c.args.capabilities _ {n = c.args.n} (let l = c.well_formed.0.1.0.1 in omega (arith, l, c.if-n-ge9.true)))
+pub returns : goal.returns
+returns c =
+    c.unwrap_or.ensures ∙
+    rw c.copied.ensures (c.get.ensures.lookup.4 (omega arith) no_capability ∙ ap (λ k. get_or c.args.capabilities k no_capability) c.from.ensures)
