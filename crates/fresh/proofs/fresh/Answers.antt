@@ -1,7 +1,8 @@
 -- `fresh::fresh` meets its contract.
+use native.Mathlib.Omega.{arith}
 use Rattle.fresh.specs.Fresh.{fresh_of}
 use Rattle.fresh.proofs.fresh.Goals as goal
 
 pub returns : goal.returns
 unfolding fresh_of
-returns c = rw (c.stack_of-stack.ensures, c.free_frame-frame.ensures, c.fresh_registers-recent.ensures)
+returns c = cc (c.get.ensures.lookup.4 (omega arith) 0)
