@@ -77,13 +77,13 @@ module _ {n : ℕ} {p : ℕ → Bool} where
   unfolding all_from
   begun = record { most = omega arith; told = refl }
 
-  pub joined : {i : ℕ} {all r both : Bool} → Sofar n p i all → i < n → r ≡ p i → both ≡ (all && r) → Sofar n p (i + 1) both
-  joined {i} {all} {r} s h e b =
+  pub joined : {i : ℕ} {all r : Bool} → Sofar n p i all → i < n → r ≡ p i → Sofar n p (i + 1) (all && r)
+  joined {i} s h e =
       let z : suc i ≡ i + 1 = omega arith in
       let o : 0 + i ≡ i = omega arith in
       record {
         most = omega arith;
-        told = b ∙ (λ j. s.told j && e j) ∙ ap (λ (k : ℕ). all_from i 0 p && p k) (sym o) ∙ sym (one_more i 0 p) ∙ ap (λ (k : ℕ). all_from k 0 p) z;
+        told = (λ j. s.told j && e j) ∙ ap (λ (k : ℕ). all_from i 0 p && p k) (sym o) ∙ sym (one_more i 0 p) ∙ ap (λ (k : ℕ). all_from k 0 p) z;
       }
 
   pub ended : {i : ℕ} {all : Bool} → Sofar n p i all → n ≤ i → all ≡ all_from n 0 p

@@ -15,9 +15,6 @@ pass p q = simp (p, q)
 pub stop : {a : Bool} (b : Bool) → a ≡ false → false ≡ (a && b)
 stop b p = simp p
 
-pub stop-first : {a : Bool} (b : Bool) → false ≡ a → false ≡ (a && b)
-stop-first b p = simp (← p)
-
 pub in_then : {t a r : Bool} (b : Bool) → t ≡ true → r ≡ a → r ≡ (if t then a else b)
 in_then b p q = simp (p, q)
 

@@ -2,35 +2,21 @@
 
 #![tactic(auto)]
 
-ghost use Rattle.std.specs.Prelude.{◌≡◌, ◌&&◌, ◌<◌, get_or};
+ghost use Rattle.std.specs.Prelude.{◌≡◌, ◌<◌, get_or};
 ghost use Rattle.layout_soundness.specs.SoundLayout.{all_from, segment_test, stack_test, rights_test, start_test, gate_test, gates_test, layout_test};
 
 use references::flag::{Flag, allows};
 use state::bases::words_in;
 use state::record::{Layout, Start};
 
-fn segment_sound(segments: u8, domains: u8, i: u8, length: u16, gates: u16, domain: u8) -> bool
+#[tactic(auto, using(std::proofs::lemmas::Bool::Decides::nat_tests), unfolding(crate::specs::SoundLayout::segment_test))]
+fn segment_sound(segments: u8, domains: u8, i: usize, length: u16, gates: u16, domain: u8) -> bool
     ensures { result ≡ segment_test segments domains i length gates domain }
 {
-    if i < segments {
-        if length < 1 {
-            return false;
-        }
-        if 4096 < length {
-            return false;
-        }
-        if length < gates {
-            return false;
-        }
-        domain < domains
+    if i < segments as usize {
+        1 <= length && length <= 4096 && gates <= length && domain < domains
     } else {
-        if length != 0 {
-            return false;
-        }
-        if gates != 0 {
-            return false;
-        }
-        domain == 0
+        length == 0 && gates == 0 && domain == 0
     }
 }
 
@@ -43,21 +29,19 @@ fn segments_sound<'a>(
 ) -> bool
     ensures { result ≡ all_from 16 0 (λ i. segment_test segments domains i (get_or lengths.now i 0) (get_or gates.now i 0) (get_or gatedomains.now i 0)) }
 {
-    let mut i = 0u8;
-    while i < 16 {
-        let k = i as usize;
-        if !segment_sound(segments, domains, i, lengths[k], gates[k], gatedomains[k]) {
+    for i in 0..16 {
+        if !segment_sound(segments, domains, i, lengths[i], gates[i], gatedomains[i]) {
             return false;
         }
-        i += 1;
     }
     true
 }
 
-fn stack_sound(segments: u8, domains: u8, i: u8, stack: u8) -> bool
+#[tactic(auto, using(std::proofs::lemmas::Bool::Decides::nat_tests), unfolding(crate::specs::SoundLayout::stack_test))]
+fn stack_sound(segments: u8, domains: u8, i: usize, stack: u8) -> bool
     ensures { result ≡ stack_test segments domains i stack }
 {
-    if i < domains {
+    if i < domains as usize {
         stack < segments
     } else {
         stack == 0
@@ -67,33 +51,23 @@ fn stack_sound(segments: u8, domains: u8, i: u8, stack: u8) -> bool
 fn stacks_sound(segments: u8, domains: u8, stacks: &[u8; 8]) -> bool
     ensures { result ≡ all_from 8 0 (λ i. stack_test segments domains i (get_or stacks.now i 0)) }
 {
-    let mut i = 0u8;
-    while i < 8 {
-        let k = i as usize;
-        if !stack_sound(segments, domains, i, stacks[k]) {
+    for i in 0..8 {
+        if !stack_sound(segments, domains, i, stacks[i]) {
             return false;
         }
-        i += 1;
     }
     true
 }
 
+#[tactic(auto, using(std::proofs::lemmas::Bool::Decides::nat_tests), unfolding(crate::specs::SoundLayout::rights_test))]
 fn right_sound(segments: u8, domains: u8, i: u8, rights: u8) -> bool
     ensures { result ≡ rights_test segments domains i rights }
 {
-    if domains <= i / 16 {
-        return rights == 0;
+    if i / 16 < domains && i % 16 < segments {
+        rights <= 15
+    } else {
+        rights == 0
     }
-    if segments <= i % 16 {
-        return rights == 0;
-    }
-    rights <= 15
-}
-
-fn both(a: bool, b: bool) -> bool
-    ensures { result ≡ (a && b) }
-{
-    if a { b } else { false }
 }
 
 // There is no early end, so that the compiler takes many rights at a time.
@@ -101,40 +75,26 @@ fn rights_sound(segments: u8, domains: u8, rights: &[u8; 128]) -> bool
     ensures { result ≡ all_from 128 0 (λ i. rights_test segments domains i (get_or rights.now i 0)) }
 {
     let mut all = true;
-    let mut i = 0u8;
-    while i < 128 {
-        let k = i as usize;
-        all = both(all, right_sound(segments, domains, i, rights[k]));
-        i += 1;
+    for i in 0..128 {
+        all &= right_sound(segments, domains, i, rights[i as usize]);
     }
     all
 }
 
+#[tactic(auto, using(std::proofs::lemmas::Bool::Decides::nat_tests), unfolding(crate::specs::SoundLayout::start_test))]
 fn start_sound(segments: u8, domains: u8, start: Start) -> bool
     ensures { result ≡ start_test segments domains start }
 {
-    if domains <= start.domain {
-        return false;
-    }
-    if segments <= start.segment {
-        return false;
-    }
-    start.word <= 4095
+    start.domain < domains && start.segment < segments && start.word <= 4095
 }
 
 // Whether segment i has no gates, or their domain has E on it.
-fn gate_sound(rights: &[u8; 128], i: u8, gates: u16, domain: u8) -> bool
+#[tactic(auto, using(std::proofs::lemmas::Bool::Decides::nat_tests), unfolding(crate::specs::SoundLayout::gate_test, references::specs::Static::rights_of, references::specs::Flag::has))]
+fn gate_sound(rights: &[u8; 128], i: usize, gates: u16, domain: u8) -> bool
     requires { i < 16 }
     ensures { result ≡ gate_test rights.now i gates domain }
 {
-    if gates == 0 {
-        return true;
-    }
-    if 8 <= domain {
-        return false;
-    }
-    let k = domain as usize * 16 + i as usize;
-    allows(rights[k], Flag::Execute)
+    gates == 0 || domain < 8 && allows(rights[domain as usize * 16 + i], Flag::Execute)
 }
 
 // Whether no gate is dead.
@@ -145,46 +105,26 @@ pub fn gates_sound<'a>(
 ) -> bool
     ensures { result ≡ gates_test gates.now gatedomains.now rights.now }
 {
-    let mut i = 0u8;
-    while i < 16 {
-        let k = i as usize;
-        if !gate_sound(rights, i, gates[k], gatedomains[k]) {
+    for i in 0..16 {
+        if !gate_sound(rights, i, gates[i], gatedomains[i]) {
             return false;
         }
-        i += 1;
     }
     true
 }
 
+#[tactic(auto, using(std::proofs::lemmas::Bool::Decides::nat_tests), unfolding(crate::specs::SoundLayout::layout_test, crate::specs::SoundLayout::ranges_test))]
 pub fn layout_sound(l: Layout) -> bool
     ensures { result ≡ layout_test l }
 {
-    if l.segments < 1 {
-        return false;
-    }
-    if 16 < l.segments {
-        return false;
-    }
-    if l.domains < 1 {
-        return false;
-    }
-    if 8 < l.domains {
-        return false;
-    }
-    if !segments_sound(l.segments, l.domains, &l.lengths, &l.gates, &l.gatedomains) {
-        return false;
-    }
-    if 8192 < words_in(&l.lengths) {
-        return false;
-    }
-    if !stacks_sound(l.segments, l.domains, &l.stacks) {
-        return false;
-    }
-    if !rights_sound(l.segments, l.domains, &l.rights) {
-        return false;
-    }
-    if !start_sound(l.segments, l.domains, l.start) {
-        return false;
-    }
-    gates_sound(&l.gates, &l.gatedomains, &l.rights)
+    1 <= l.segments
+        && l.segments <= 16
+        && 1 <= l.domains
+        && l.domains <= 8
+        && segments_sound(l.segments, l.domains, &l.lengths, &l.gates, &l.gatedomains)
+        && words_in(&l.lengths) <= 8192
+        && stacks_sound(l.segments, l.domains, &l.stacks)
+        && rights_sound(l.segments, l.domains, &l.rights)
+        && start_sound(l.segments, l.domains, l.start)
+        && gates_sound(&l.gates, &l.gatedomains, &l.rights)
 }

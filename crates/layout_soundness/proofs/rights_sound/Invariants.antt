@@ -1,5 +1,4 @@
 -- `layout_soundness::rights_sound` meets its contract.
-use Prim.Native.Nat.{◌-◌}
 use lib.ListN.{get_or}
 use Rattle.layout_soundness.specs.SoundLayout.{rights_test}
 use Rattle.layout_soundness.proofs.All.{Sofar}
@@ -7,6 +6,3 @@ use Rattle.layout_soundness.proofs.rights_sound.Given as goal
 
 abbrev pub invariant-loop-i : goal.invariant-loop-i
 invariant-loop-i l = Sofar 128 (λ k. rights_test l.segments l.domains k (get_or l.rights k 0)) l.i l.all
-
-abbrev pub decreases-loop-i : goal.decreases-loop-i
-decreases-loop-i l = 128 - l.i
