@@ -6,55 +6,35 @@ use crate::registers::{pointer_empty, pointer_sound};
 use crate::rows::{rows_empty, rows_sound};
 use state::record::Frame;
 
+#[tactic(auto, using(std::proofs::lemmas::Bool::Decides::nat_tests), unfolding(crate::specs::Sound::frame_test))]
 pub fn frame_sound(domains: u8, f: Frame) -> bool
     ensures { result ≡ frame_test domains f }
 {
-    if f.count < 1 {
-        return false;
-    }
-    if 9 < f.count {
-        return false;
-    }
-    if domains <= f.domain {
-        return false;
-    }
-    if !pointer_sound(f.s) {
-        return false;
-    }
-    if !pointer_sound(f.back) {
-        return false;
-    }
-    if f.back.tag {
-        return false;
-    }
-    let capabilities = f.capabilities;
-    rows_sound(domains, f.count, capabilities)
+    1 <= f.count
+        && f.count <= 9
+        && f.domain < domains
+        && pointer_sound(f.s)
+        && pointer_sound(f.back)
+        && !f.back.tag
+        && rows_sound(domains, f.count, &f.capabilities)
 }
 
+#[tactic(auto, using(std::proofs::lemmas::Bool::Decides::nat_tests), unfolding(crate::specs::Sound::empty_frame))]
 fn frame_empty(f: Frame) -> bool
     ensures { result ≡ empty_frame f }
 {
-    if f.count != 0 {
-        return false;
-    }
-    if f.domain != 0 {
-        return false;
-    }
-    if !pointer_empty(f.s) {
-        return false;
-    }
-    if !pointer_empty(f.back) {
-        return false;
-    }
-    let capabilities = f.capabilities;
-    rows_empty(capabilities)
+    f.count == 0
+        && f.domain == 0
+        && pointer_empty(f.s)
+        && pointer_empty(f.back)
+        && rows_empty(&f.capabilities)
 }
 
 // Whether frame i of a machine with depth frames in use is as it must be.
-fn place_sound(domains: u8, depth: u8, i: u8, f: Frame) -> bool
+fn place_sound(domains: u8, depth: u8, i: usize, f: Frame) -> bool
     ensures { result ≡ (if ltb i depth then frame_test domains f else empty_frame f) }
 {
-    if i < depth {
+    if i < depth as usize {
         frame_sound(domains, f)
     } else {
         frame_empty(f)
@@ -67,14 +47,10 @@ pub fn frames_sound(domains: u8, depth: u8, frames: [Frame; 8]) -> bool
     if 8 < depth {
         return false;
     }
-    let mut i = 0u8;
-    while i < 8 {
-        let k = i as usize;
-        let f = frames[k];
-        if !place_sound(domains, depth, i, f) {
+    for i in 0..8 {
+        if !place_sound(domains, depth, i, frames[i]) {
             return false;
         }
-        i += 1;
     }
     true
 }

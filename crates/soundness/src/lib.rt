@@ -15,24 +15,13 @@ use layout_soundness::layout_sound;
 use state::record::Machine;
 
 // Whether a record is sound, for any record.
+#[tactic(auto, using(std::proofs::lemmas::Bool::Decides::nat_tests), unfolding(crate::specs::Sound::sound_test))]
 pub fn sound(m: Machine) -> bool
     ensures { result ≡ sound_test m }
 {
-    let layout = m.layout;
-    if !layout_sound(layout) {
-        return false;
-    }
-    if !registers_sound(layout.domains, m.registers) {
-        return false;
-    }
-    let pointers = m.pointers;
-    if !pointers_sound(pointers) {
-        return false;
-    }
-    let frames = m.frames;
-    if !frames_sound(layout.domains, m.depth, frames) {
-        return false;
-    }
-    let recent = m.recent;
-    recent::registers::registers_sound(m.depth, frames, recent)
+    layout_sound(m.layout)
+        && registers_sound(m.layout.domains, m.registers)
+        && pointers_sound(m.pointers)
+        && frames_sound(m.layout.domains, m.depth, m.frames)
+        && recent::registers::registers_sound(m.depth, m.frames, m.recent)
 }

@@ -5,49 +5,34 @@ ghost use Rattle.soundness.specs.Sound.{registers_test, pointer_test, pointers_t
 use state::record::Registers;
 use words::pointer::Pointer;
 
+#[tactic(auto, using(std::proofs::lemmas::Bool::Decides::nat_tests), unfolding(crate::specs::Sound::registers_test))]
 pub fn registers_sound(domains: u8, r: Registers) -> bool
     ensures { result ≡ registers_test domains r }
 {
-    if domains <= r.domain {
-        return false;
-    }
-    if 15 < r.segment {
-        return false;
-    }
-    r.word <= 4096
+    r.domain < domains && r.segment <= 15 && r.word <= 4096
 }
 
+#[tactic(auto, using(std::proofs::lemmas::Bool::Decides::nat_tests), unfolding(crate::specs::Sound::pointer_test))]
 pub fn pointer_sound(p: Pointer) -> bool
     ensures { result ≡ pointer_test p }
 {
-    if 15 < p.segment {
-        return false;
-    }
-    p.word <= 4095
+    p.segment <= 15 && p.word <= 4095
 }
 
+#[tactic(auto, using(std::proofs::lemmas::Bool::Decides::nat_tests), unfolding(crate::specs::Sound::empty_pointer))]
 pub fn pointer_empty(p: Pointer) -> bool
     ensures { result ≡ empty_pointer p }
 {
-    if p.word != 0 {
-        return false;
-    }
-    if p.segment != 0 {
-        return false;
-    }
-    !p.tag
+    p == Pointer::NOWHERE
 }
 
 pub fn pointers_sound(pointers: [Pointer; 8]) -> bool
     ensures { result ≡ pointers_test pointers }
 {
-    let mut i = 0usize;
-    while i < 8 {
-        let p = pointers[i];
-        if !pointer_sound(p) {
+    for i in 0..8 {
+        if !pointer_sound(pointers[i]) {
             return false;
         }
-        i += 1;
     }
     true
 }

@@ -1,6 +1,5 @@
 -- `soundness::frames::frames_sound` meets its contract.
 use Rattle.std.specs.Prelude.{if◌then◌else◌}
-use Prim.Native.Nat.{◌-◌}
 use lib.Dec.{ltb}
 use lib.ListN.{get_or}
 use Rattle.state.specs.Record.{no_frame}
@@ -10,6 +9,3 @@ use Rattle.soundness.proofs.frames.frames_sound.Given as goal
 
 abbrev pub invariant-loop-i : goal.invariant-loop-i
 invariant-loop-i l = Left 8 (λ k. if ltb k l.depth then frame_test l.domains (get_or l.frames k no_frame) else empty_frame (get_or l.frames k no_frame)) l.i
-
-abbrev pub decreases-loop-i : goal.decreases-loop-i
-decreases-loop-i l = 8 - l.i

@@ -1,5 +1,4 @@
 -- `soundness::registers::pointers_sound` meets its contract.
-use Prim.Native.Nat.{◌-◌}
 use lib.ListN.{get_or}
 use Rattle.state.specs.Record.{no_pointer}
 use Rattle.soundness.specs.Sound.{pointer_test}
@@ -8,6 +7,3 @@ use Rattle.soundness.proofs.registers.pointers_sound.Given as goal
 
 abbrev pub invariant-loop-i : goal.invariant-loop-i
 invariant-loop-i l = Left 8 (λ k. pointer_test (get_or l.pointers k no_pointer)) l.i
-
-abbrev pub decreases-loop-i : goal.decreases-loop-i
-decreases-loop-i l = 8 - l.i

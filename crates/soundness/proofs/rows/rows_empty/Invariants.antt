@@ -1,5 +1,4 @@
 -- `soundness::rows::rows_empty` meets its contract.
-use Prim.Native.Nat.{◌-◌}
 use lib.ListN.{get_or}
 use Rattle.state.specs.Record.{no_capability}
 use Rattle.soundness.specs.Sound.{empty_capability}
@@ -8,6 +7,3 @@ use Rattle.soundness.proofs.rows.rows_empty.Given as goal
 
 abbrev pub invariant-loop-j : goal.invariant-loop-j
 invariant-loop-j l = Left 9 (λ k. empty_capability (get_or l.capabilities k no_capability)) l.j
-
-abbrev pub decreases-loop-j : goal.decreases-loop-j
-decreases-loop-j l = 9 - l.j

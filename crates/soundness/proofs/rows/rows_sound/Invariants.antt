@@ -1,6 +1,5 @@
 -- `soundness::rows::rows_sound` meets its contract.
 use Rattle.std.specs.Prelude.{if◌then◌else◌}
-use Prim.Native.Nat.{◌-◌}
 use lib.Dec.{ltb}
 use lib.ListN.{get_or}
 use Rattle.state.specs.Record.{no_capability}
@@ -10,6 +9,3 @@ use Rattle.soundness.proofs.rows.rows_sound.Given as goal
 
 abbrev pub invariant-loop-j : goal.invariant-loop-j
 invariant-loop-j l = Left 9 (λ k. if ltb k l.count then capability_test l.domains (get_or l.capabilities k no_capability) else empty_capability (get_or l.capabilities k no_capability)) l.j
-
-abbrev pub decreases-loop-j : goal.decreases-loop-j
-decreases-loop-j l = 9 - l.j
