@@ -88,3 +88,6 @@ module _ {n : ℕ} {p : ℕ → Bool} where
 
   pub ended : {i : ℕ} {all : Bool} → Sofar n p i all → n ≤ i → all ≡ all_from n 0 p
   ended {i} s h = s.told ∙ ap (λ (k : ℕ). all_from k 0 p) (let z : i ≡ n = omega (arith, s.most) in z)
+
+-- what each goal of a loop with an early end is
+pub ruleset turns = (none, more, fails, done)

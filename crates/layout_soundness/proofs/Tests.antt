@@ -1,10 +1,10 @@
 -- Tests in a row and tests by cases, as code with early returns comes to them.
 use Rattle.std.specs.Prelude.{if◌then◌else◌}
-use Prim.Native.Nat.{ℕ, ◌<◌, ◌≤◌}
+use Prim.Native.Nat.{ℕ, ◌≤◌}
 use mathlib.Core.Path.{◌≡◌, refl, sym, ◌∙◌, ap}
 use mathlib.Core.Bool.{Bool, true, false, ◌&&◌}
 use native.Mathlib.Omega.{arith}
-use borrow.Author.Tests.{le-leb, lt-leb, leb-true}
+use borrow.Author.Tests.{le-leb, leb-true}
 use lib.Dec.{leb}
 use Rattle.layout_soundness.specs.SoundLayout.{between}
 
@@ -15,21 +15,15 @@ pass p q = simp (p, q)
 pub stop : {a : Bool} (b : Bool) → a ≡ false → false ≡ (a && b)
 stop b p = simp p
 
-pub in_then : {t a r : Bool} (b : Bool) → t ≡ true → r ≡ a → r ≡ (if t then a else b)
+in_then : {t a r : Bool} (b : Bool) → t ≡ true → r ≡ a → r ≡ (if t then a else b)
 in_then b p q = simp (p, q)
 
-pub in-else : {t b r : Bool} (a : Bool) → t ≡ false → r ≡ b → r ≡ (if t then a else b)
+in-else : {t b r : Bool} (a : Bool) → t ≡ false → r ≡ b → r ≡ (if t then a else b)
 in-else a p q = simp (p, q)
 
--- a number between two, below them, above them
+-- a number between two
 pub inside : {low high n : ℕ} → low ≤ n → n ≤ high → between low high n ≡ true
 inside p q = simp (le-leb _ _ p, le-leb _ _ q)
-
-pub below : {low n : ℕ} (high : ℕ) → n < low → between low high n ≡ false
-below high p = simp (lt-leb _ _ p)
-
-pub above : {low high n : ℕ} → low ≤ n → high < n → between low high n ≡ false
-above p q = simp (le-leb _ _ p, lt-leb _ _ q)
 
 -- what a test called in a condition `!f(..)` answered
 pub answered-true : {t r : Bool} → r ≡ t → r ≡ true → t ≡ true

@@ -9,7 +9,7 @@ use references::flag::{Flag, allows};
 use state::bases::words_in;
 use state::record::{Layout, Start};
 
-#[tactic(auto, using(std::proofs::lemmas::Bool::Decides::nat_tests), unfolding(crate::specs::SoundLayout::segment_test))]
+#[tactic(auto, unfolding(crate::specs::SoundLayout::segment_test))]
 fn segment_sound(segments: u8, domains: u8, i: usize, length: u16, gates: u16, domain: u8) -> bool
     ensures { result ≡ segment_test segments domains i length gates domain }
 {
@@ -20,6 +20,7 @@ fn segment_sound(segments: u8, domains: u8, i: usize, length: u16, gates: u16, d
     }
 }
 
+#[tactic(auto, using(crate::proofs::All::turns))]
 fn segments_sound<'a>(
     segments: u8,
     domains: u8,
@@ -37,7 +38,7 @@ fn segments_sound<'a>(
     true
 }
 
-#[tactic(auto, using(std::proofs::lemmas::Bool::Decides::nat_tests), unfolding(crate::specs::SoundLayout::stack_test))]
+#[tactic(auto, unfolding(crate::specs::SoundLayout::stack_test))]
 fn stack_sound(segments: u8, domains: u8, i: usize, stack: u8) -> bool
     ensures { result ≡ stack_test segments domains i stack }
 {
@@ -48,6 +49,7 @@ fn stack_sound(segments: u8, domains: u8, i: usize, stack: u8) -> bool
     }
 }
 
+#[tactic(auto, using(crate::proofs::All::turns))]
 fn stacks_sound(segments: u8, domains: u8, stacks: &[u8; 8]) -> bool
     ensures { result ≡ all_from 8 0 (λ i. stack_test segments domains i (get_or stacks.now i 0)) }
 {
@@ -59,7 +61,7 @@ fn stacks_sound(segments: u8, domains: u8, stacks: &[u8; 8]) -> bool
     true
 }
 
-#[tactic(auto, using(std::proofs::lemmas::Bool::Decides::nat_tests), unfolding(crate::specs::SoundLayout::rights_test))]
+#[tactic(auto, unfolding(crate::specs::SoundLayout::rights_test))]
 fn right_sound(segments: u8, domains: u8, i: u8, rights: u8) -> bool
     ensures { result ≡ rights_test segments domains i rights }
 {
@@ -81,7 +83,7 @@ fn rights_sound(segments: u8, domains: u8, rights: &[u8; 128]) -> bool
     all
 }
 
-#[tactic(auto, using(std::proofs::lemmas::Bool::Decides::nat_tests), unfolding(crate::specs::SoundLayout::start_test))]
+#[tactic(auto, unfolding(crate::specs::SoundLayout::start_test))]
 fn start_sound(segments: u8, domains: u8, start: Start) -> bool
     ensures { result ≡ start_test segments domains start }
 {
@@ -89,7 +91,7 @@ fn start_sound(segments: u8, domains: u8, start: Start) -> bool
 }
 
 // Whether segment i has no gates, or their domain has E on it.
-#[tactic(auto, using(std::proofs::lemmas::Bool::Decides::nat_tests), unfolding(crate::specs::SoundLayout::gate_test, references::specs::Static::rights_of, references::specs::Flag::has))]
+#[tactic(auto, unfolding(crate::specs::SoundLayout::gate_test, references::specs::Static::rights_of, references::specs::Flag::has))]
 fn gate_sound(rights: &[u8; 128], i: usize, gates: u16, domain: u8) -> bool
     requires { i < 16 }
     ensures { result ≡ gate_test rights.now i gates domain }
@@ -98,6 +100,7 @@ fn gate_sound(rights: &[u8; 128], i: usize, gates: u16, domain: u8) -> bool
 }
 
 // Whether no gate is dead.
+#[tactic(auto, using(crate::proofs::All::turns), unfolding(crate::specs::SoundLayout::gates_test))]
 pub fn gates_sound<'a>(
     gates: &'a [u16; 16],
     gatedomains: &'a [u8; 16],
@@ -113,7 +116,7 @@ pub fn gates_sound<'a>(
     true
 }
 
-#[tactic(auto, using(std::proofs::lemmas::Bool::Decides::nat_tests), unfolding(crate::specs::SoundLayout::layout_test, crate::specs::SoundLayout::ranges_test))]
+#[tactic(auto, unfolding(crate::specs::SoundLayout::layout_test, crate::specs::SoundLayout::ranges_test))]
 pub fn layout_sound(l: Layout) -> bool
     ensures { result ≡ layout_test l }
 {

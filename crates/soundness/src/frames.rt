@@ -6,7 +6,7 @@ use crate::registers::{pointer_empty, pointer_sound};
 use crate::rows::{rows_empty, rows_sound};
 use state::record::Frame;
 
-#[tactic(auto, using(std::proofs::lemmas::Bool::Decides::nat_tests), unfolding(crate::specs::Sound::frame_test))]
+#[tactic(auto, unfolding(crate::specs::Sound::frame_test))]
 pub fn frame_sound(domains: u8, f: Frame) -> bool
     ensures { result ≡ frame_test domains f }
 {
@@ -19,7 +19,7 @@ pub fn frame_sound(domains: u8, f: Frame) -> bool
         && rows_sound(domains, f.count, &f.capabilities)
 }
 
-#[tactic(auto, using(std::proofs::lemmas::Bool::Decides::nat_tests), unfolding(crate::specs::Sound::empty_frame))]
+#[tactic(auto, unfolding(crate::specs::Sound::empty_frame))]
 fn frame_empty(f: Frame) -> bool
     ensures { result ≡ empty_frame f }
 {
@@ -41,6 +41,7 @@ fn place_sound(domains: u8, depth: u8, i: usize, f: Frame) -> bool
     }
 }
 
+#[tactic(auto, using(layout_soundness::proofs::All::turns), unfolding(crate::specs::Sound::frames_test))]
 pub fn frames_sound(domains: u8, depth: u8, frames: [Frame; 8]) -> bool
     ensures { result ≡ frames_test domains depth frames }
 {

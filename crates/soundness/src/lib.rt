@@ -15,7 +15,7 @@ use layout_soundness::layout_sound;
 use state::record::Machine;
 
 // Whether a record is sound, for any record.
-#[tactic(auto, using(std::proofs::lemmas::Bool::Decides::nat_tests), unfolding(crate::specs::Sound::sound_test))]
+#[tactic(auto, unfolding(crate::specs::Sound::sound_test))]
 pub fn sound(m: Machine) -> bool
     ensures { result ≡ sound_test m }
 {

@@ -5,27 +5,28 @@ ghost use Rattle.soundness.specs.Sound.{registers_test, pointer_test, pointers_t
 use state::record::Registers;
 use words::pointer::Pointer;
 
-#[tactic(auto, using(std::proofs::lemmas::Bool::Decides::nat_tests), unfolding(crate::specs::Sound::registers_test))]
+#[tactic(auto, unfolding(crate::specs::Sound::registers_test))]
 pub fn registers_sound(domains: u8, r: Registers) -> bool
     ensures { result ≡ registers_test domains r }
 {
     r.domain < domains && r.segment <= 15 && r.word <= 4096
 }
 
-#[tactic(auto, using(std::proofs::lemmas::Bool::Decides::nat_tests), unfolding(crate::specs::Sound::pointer_test))]
+#[tactic(auto, unfolding(crate::specs::Sound::pointer_test))]
 pub fn pointer_sound(p: Pointer) -> bool
     ensures { result ≡ pointer_test p }
 {
     p.segment <= 15 && p.word <= 4095
 }
 
-#[tactic(auto, using(std::proofs::lemmas::Bool::Decides::nat_tests), unfolding(crate::specs::Sound::empty_pointer))]
+#[tactic(auto, unfolding(crate::specs::Sound::empty_pointer))]
 pub fn pointer_empty(p: Pointer) -> bool
     ensures { result ≡ empty_pointer p }
 {
     p == Pointer::NOWHERE
 }
 
+#[tactic(auto, using(layout_soundness::proofs::All::turns), unfolding(crate::specs::Sound::pointers_test))]
 pub fn pointers_sound(pointers: [Pointer; 8]) -> bool
     ensures { result ≡ pointers_test pointers }
 {

@@ -6,7 +6,7 @@ ghost use Rattle.soundness.specs.Sound.{capability_test, empty_capability};
 
 use state::record::Capability;
 
-#[tactic(auto, using(std::proofs::lemmas::Bool::Decides::nat_tests), unfolding(crate::specs::Sound::capability_test))]
+#[tactic(auto, unfolding(crate::specs::Sound::capability_test))]
 fn capability_sound(domains: u8, c: Capability) -> bool
     ensures { result ≡ capability_test domains c }
 {
@@ -18,7 +18,7 @@ fn capability_sound(domains: u8, c: Capability) -> bool
         && (c.read || c.write)
 }
 
-#[tactic(auto, using(std::proofs::lemmas::Bool::Decides::nat_tests), unfolding(crate::specs::Sound::empty_capability))]
+#[tactic(auto, unfolding(crate::specs::Sound::empty_capability))]
 fn capability_empty(c: Capability) -> bool
     ensures { result ≡ empty_capability c }
 {
@@ -36,6 +36,7 @@ fn row_sound(domains: u8, count: u8, j: usize, c: Capability) -> bool
     }
 }
 
+#[tactic(auto, using(layout_soundness::proofs::All::turns))]
 pub fn rows_sound(domains: u8, count: u8, capabilities: &[Capability; 9]) -> bool
     ensures { result ≡ all_from 9 0 (λ j. (if ltb j count then capability_test domains (get_or capabilities.now j no_capability) else empty_capability (get_or capabilities.now j no_capability))) }
 {
@@ -47,6 +48,7 @@ pub fn rows_sound(domains: u8, count: u8, capabilities: &[Capability; 9]) -> boo
     true
 }
 
+#[tactic(auto, using(layout_soundness::proofs::All::turns))]
 pub fn rows_empty(capabilities: &[Capability; 9]) -> bool
     ensures { result ≡ all_from 9 0 (λ j. empty_capability (get_or capabilities.now j no_capability)) }
 {
