@@ -3,17 +3,21 @@ use Prim.Native.Nat.{ℕ, ◌+◌, ◌-◌, ◌<◌, ◌≤◌}
 use native.Mathlib.Omega.{arith}
 use mathlib.Core.Bool.{Bool, true, false}
 use mathlib.Core.List.{List}
-use mathlib.Core.Path.{◌≡◌, refl, sym, ◌∙◌}
+use mathlib.Core.Path.{◌≡◌, refl, sym, ap, ◌∙◌}
 use borrow.Author.Tests.{leb-true, ltb-true}
 use lib.Dec.{leb, ltb}
 use lib.ListN.{length, get_or, take, drop, length-take, length-drop}
-use Rattle.words.specs.Answer.{Answer, refuse, ok, ◌>>◌, require, number_of}
+use Rattle.std.specs.Prelude.{Result, Ok, Err}
+use Rattle.std.specs.Result.{is_err}
+use Rattle.words.specs.declared.refusal.Refusal.{Refusal}
+use Rattle.words.specs.Refusal.{answer}
+use Rattle.words.specs.Answer.{Answer, ok, ◌>>◌, require, number_of}
 use Rattle.state.specs.declared.record.Machine.{Machine}
 use Rattle.state.specs.Bases.{base_of}
 use Rattle.state.proofs.Sums.{base-apart}
 use Rattle.soundness.specs.Sound.{sound_test}
 use Rattle.soundness.proofs.Facts.{sound-facts}
-use Rattle.segments.specs.Segment.{segment_check, unless_refused, part_start, part_size, segment_part, word_place}
+use Rattle.segments.specs.Segment.{segment_check, part_start, part_size, segment_part, word_place}
 
 pub record Given (m : Machine) (size number : ℕ) : Type 0 where
   pub accepted : segment_check m size number ≡ ok tt
@@ -50,14 +54,15 @@ given m size number n q z =
     }
 
 module _ (m : Machine) (size number : ℕ) where
-  -- a refused part is empty, at the memory's start
-  pub none : (n : ℕ) → n ≡ number_of (segment_check m size number) → (n ≡ 0 → ⊥) → (part_start m size number ≡ 0) × (part_size m size number ≡ 0)
-  none n q f = by (segment_check m size number) (λ e. f (q ∙ e))
-    where
-      by : (a : Answer (Unit {0})) → (number_of a ≡ 0 → ⊥)
-          → (unless_refused a (base_of m.layout.lengths number) ≡ 0) × (unless_refused a (get_or m.layout.lengths number 0) ≡ 0)
-      by (refuse k) f = (refl, refl)
-      by (ok u) f = absurd (f refl)
+  -- what the code's judgement says of a part: refused it is empty, at the memory's start
+  pub none : (r : Result (Unit {0}) Refusal) → answer r ≡ segment_check m size number → is_err r ≡ true
+      → (part_start m size number ≡ 0) × (part_size m size number ≡ 0)
+  none (Ok u) a e = absurd (cc)
+  none (Err x) a e = rw (← a) (refl, refl)
+
+  pub some : (r : Result (Unit {0}) Refusal) → answer r ≡ segment_check m size number → is_err r ≡ false → Given m size number
+  some (Ok u) a e = given m size number 0 (ap number_of a) refl
+  some (Err x) a e = absurd (cc)
 
   module _ (g : Given m size number) where
     pub starts : part_start m size number ≡ base_of m.layout.lengths number

@@ -4,31 +4,33 @@
 
 ghost use Rattle.std.specs.Prelude.{◌≡◌, ◌+◌, ◌≤◌, length};
 ghost use Rattle.segments.specs.Segment.{segment_check, segment_number, segment_part, part_start, part_size, word_place};
-ghost use Rattle.words.specs.Answer.{number_of};
+ghost use Rattle.words.specs.Refusal.{answer, status};
 
 use soundness::sound;
 use state::bases::bases;
 use state::record::Machine;
+use words::refusal::Refusal;
 
-// 0, or why there is no such part of a memory of size words.
-fn judge(m: Machine, size: usize, number: u8) -> u8
-    ensures { result ≡ number_of (segment_check m size number) }
+// Whether there is such a part of a memory of size words, and else why not.
+#[tactic(auto, unfolding(crate::specs::Segment::segment_check))]
+fn judge(m: Machine, size: usize, number: u8) -> Result<(), Refusal>
+    ensures { answer result ≡ segment_check m size number }
 {
     if !sound(m) {
-        return 9;
+        return Err(Refusal::NotSound);
     }
     if size < 8192 {
-        return 7;
+        return Err(Refusal::MemoryTooShort);
     }
     if m.layout.segments <= number {
-        return 21;
+        return Err(Refusal::NoWord);
     }
-    0
+    Ok(())
 }
 
-// 0, or the refusal 9, 7 or 21.
-pub fn segment_number(m: Machine, words: &[u32], number: u8) -> u8
-    ensures { result ≡ segment_number m words.now number }
+// Whether the host gets a segment; else why not: the record is not sound, then the memory is too short, then there is no such segment.
+pub fn segment_number(m: Machine, words: &[u32], number: u8) -> Result<(), Refusal>
+    ensures { status result ≡ segment_number m words.now number }
 {
     judge(m, words.len(), number)
 }
@@ -45,7 +47,7 @@ pub fn span(m: Machine, size: usize, number: u8) -> Bounds
     ensures from_value { (result.from ≡ part_start m size number) × (result.to ≡ part_start m size number + part_size m size number) }
     ensures to_le_size { result.to ≤ size }
 {
-    if judge(m, size, number) != 0 {
+    if judge(m, size, number).is_err() {
         return Bounds { from: 0, to: 0 };
     }
     let i = number as usize;
@@ -62,9 +64,7 @@ pub fn segment(m: Machine, words: &[u32], number: u8) -> &[u32]
     ensures ref_ptr_value { result.ref_ptr ≡ word_place words.entry.ref_ptr (part_start m (length words.now) number) }
 {
     let s = span(m, words.len(), number);
-    let from = s.from;
-    let to = s.to;
-    &words[from..to]
+    &words[s.from..s.to]
 }
 
 // The same words, to be written.
@@ -73,7 +73,5 @@ pub fn segment_mut(m: Machine, words: &mut [u32], number: u8) -> &mut [u32]
     ensures ref_ptr_value { result.ref_ptr ≡ word_place words.entry.ref_ptr (part_start m (length words.old) number) }
 {
     let s = span(m, words.len(), number);
-    let from = s.from;
-    let to = s.to;
-    &mut words[from..to]
+    &mut words[s.from..s.to]
 }

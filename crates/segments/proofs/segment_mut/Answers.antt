@@ -1,16 +1,6 @@
 -- `segments::segment_mut` meets its contract.
-use native.Mathlib.Omega.{arith}
 use Rattle.segments.proofs.Parts.{part}
 use Rattle.segments.proofs.segment_mut.Goals as goal
-
-pub offset_bounds-words-from : goal.offset_bounds-words-from
-offset_bounds-words-from c = omega (arith, c.span-s.ensures)
-
-pub slice_bounds-result-count : goal.slice_bounds-result-count
-slice_bounds-result-count c = omega (arith, c.span-s.ensures)
-
-pub slice_bounds-words-start : goal.slice_bounds-words-start
-slice_bounds-words-start c = omega (arith, c.span-s.ensures)
 
 pub returns : goal.returns
 returns c = let a = c.args in
