@@ -4,7 +4,8 @@ use native.Mathlib.Omega.{arith}
 use mathlib.Core.Path.{◌≡◌, refl, sym, ap, ◌∙◌}
 use mathlib.Core.List.{List, [], ◌∷◌, ◌++◌, append_assoc}
 use lib.ListN.{length, take, drop, set, replicate, length-append, length-drop, length-replicate, replicate-append-replicate}
-use lib.Seq.{paste, take_at, drop-append-add, length-take-le}
+use lib.Seq.{paste, take_at, drop-append-add, drop-drop, length-take-le}
+use borrow.Rule.Slice.PartMut.{put_mid}
 use Rattle.words.specs.Answer.{refuse, ok}
 use Rattle.image_format.specs.Bytes.{joined}
 use Rattle.image_format.specs.Chunk.{Read, chunk_of, exactly}
@@ -55,6 +56,11 @@ padded-row xs ys row i n e h l t w =
     sym (append_assoc (xs ++ row) (zeros (16 - length row)) (zeros (128 - (length xs + 16)))) ∙
     ap (λ (m : List ℕ). m ++ zeros (128 - (length xs + 16))) (append_assoc xs row (zeros (16 - length row))) ∙
     ap (λ (k : ℕ). (xs ++ (row ++ zeros (16 - length row))) ++ zeros (128 - k)) (sym r)
+
+-- a row that is copied over a part
+pub row_put : (rs xs ys : List ℕ) (a k m n : ℕ) → k ≡ n → m ≡ n → ys ≡ take m xs → put_mid a k rs ys ≡ paste rs a xs n
+row_put rs xs ys a k m n e f h =
+    rw (h, e, f) ((λ j. take a rs ++ (take n xs ++ drop-drop n a rs j)) ∙ sym (append_assoc (take a rs) (take n xs) (drop (a + n) rs)))
 
 pub record DomainsSoFar (image : List ℕ) (start count segments : ℕ) (ss rs : List ℕ) (at i : ℕ) : Type 0 where
   pub rows : List Domain

@@ -1,6 +1,6 @@
+pub mod Results
 pub mod Runs
 pub mod SegmentRows
-pub mod Rights
 pub mod DomainRows
 pub mod Stores
 pub mod Judged

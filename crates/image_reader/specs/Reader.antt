@@ -6,7 +6,6 @@ use Rattle.fresh.specs.Fresh.{fresh_of}
 use Rattle.words.specs.Numbers.{memory_too_short}
 use Rattle.image_format.specs.Segment.{all_words}
 use Rattle.image_format.specs.Image.{Image, image_of, layout_of}
-use Rattle.image_reader.specs.declared.ReadAnswer.{ReadAnswer}
 
 -- the value that an answer gives, made into another
 abbrev pub mapped : {A B : Type 0} → (A → B) → Answer A → Answer B
@@ -17,10 +16,10 @@ mapped f (ok a) = ok (f a)
 unfoldable pub read_image : List ℕ → List ℕ → Answer Image
 read_image bytes words = require (leb 8192 (length words)) memory_too_short >> image_of bytes
 
--- the machine and the number that come of it: a fresh machine, or the one that was there
-unfoldable pub machine_after : Machine → Answer Image → ReadAnswer
-machine_after m (refuse n) = record { machine = m; number = n }
-machine_after m (ok i) = record { machine = fresh_of (layout_of i); number = 0 }
+-- the machine that comes of it: a fresh one, or the one that was there
+unfoldable pub machine_after : Machine → Answer Image → Machine
+machine_after m (refuse n) = m
+machine_after m (ok i) = fresh_of (layout_of i)
 
 -- the memory that comes of it: the image's words from the start of the memory, or the words that were there
 unfoldable pub memory_after : List ℕ → Answer Image → List ℕ

@@ -14,34 +14,22 @@ fn segment_words(image: &[u8], at: usize, words: &mut [u32], base: usize, n: usi
     requires { (at + 4 * n ≤ length image.now) × (base + n ≤ length words.old) }
     ensures { words.new ≡ paste words.old base (words_of n (drop at image.now)) n }
 {
-    let mut j = 0usize;
-    while j < n {
+    for j in 0..n {
         words[base + j] = word(image, at + 4 * j);
-        j += 1;
     }
 }
 
-fn narrow(x: u16) -> usize
-    ensures { result ≡ x }
-{
-    x as usize
-}
-
 // The words of all segments of an image whose layout is known.
-pub fn store(image: &[u8], layout: Layout, words: &mut [u32])
-    requires { (mapped layout_of (image_of image.now) ≡ ok layout) × (8192 ≤ length words.old) }
+pub fn store(image: &[u8], layout: &Layout, words: &mut [u32])
+    requires { (mapped layout_of (image_of image.now) ≡ ok layout.now) × (8192 ≤ length words.old) }
     ensures { words.new ≡ memory_after words.old (image_of image.now) }
 {
-    let lengths = layout.lengths;
-    let count = layout.segments as usize;
-    let mut at = 12usize;
-    let mut base = 0usize;
-    let mut i = 0usize;
-    while i < count {
-        let n = narrow(lengths[i]);
+    let mut at = 12;
+    let mut base = 0;
+    for i in 0..layout.segments as usize {
+        let n = layout.lengths[i] as usize;
         segment_words(image, at + 8, words, base, n);
         at += 8 + 4 * n;
         base += n;
-        i += 1;
     }
 }

@@ -26,7 +26,7 @@ pair-requires c = let h = room c in search rules
 pub returns-then-pair-kind : goal.returns-then-pair-kind
 unfolding header_of
 returns-then-pair-kind c =
-    simp (← c.left.ensures, le-leb _ _ c.if-left-lt4.false, drop-drop, ← c.pair.ensures.0, ne_eqb _ _ c.if-pair-kind.true)
+    simp (← c.left.ensures, le-leb _ _ c.if-left-lt4.false, drop-drop, ← c.pair.ensures, ne_eqb _ _ c.if-pair-kind.true)
 
 pub pair-requires-2 : goal.pair-requires-2
 pair-requires-2 c = let h = room (goal.at.pair-requires-2 c).Else-left-lt4 in search rules
@@ -34,4 +34,4 @@ pair-requires-2 c = let h = room (goal.at.pair-requires-2 c).Else-left-lt4 in se
 pub returns : goal.returns
 unfolding header_of
 returns c =
-    simp (← c.left.ensures, le-leb _ _ c.if-left-lt4.false, drop-drop, ← c.pair.ensures.0, eq-eqb _ _ c.if-pair-kind.false, ← c.pair-2.ensures.0)
+    simp (← c.left.ensures, le-leb _ _ c.if-left-lt4.false, drop-drop, ← c.pair.ensures, eq-eqb _ _ c.if-pair-kind.false, ← c.pair-2.ensures)

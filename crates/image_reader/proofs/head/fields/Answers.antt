@@ -1,6 +1,7 @@
 -- `image_reader::head::fields` meets its contract.
 use borrow.Author.Tests.{lt-leb, le-leb, lt-ltb, le-ltb, ne_eqb, eq-eqb}
 use Rattle.image_format.specs.Head.{head_fields}
+use Rattle.image_reader.proofs.Results.{handed_on}
 use Rattle.image_reader.proofs.head.fields.Goals as goal
 
 pub returns-then-segments-lt1 : goal.returns-then-segments-lt1
@@ -31,12 +32,12 @@ unfolding head_fields
 returns-then-unused-ne0 c =
     simp (le-leb _ _ c.if-segments-lt1.false, le-leb _ _ c.if-segments-gt16.false, le-leb _ _ c.if-domains-lt1.false, le-leb _ _ c.if-domains-gt8.false, lt-ltb _ _ c.if-domains-domain.false, ne_eqb _ _ c.if-unused-ne0.true)
 
-pub returns-in-Refused : goal.returns-in-Refused
+pub returns-in_err-p : goal.returns-in_err-p
 unfolding head_fields
-returns-in-Refused c =
-    simp (le-leb _ _ c.if-segments-lt1.false, le-leb _ _ c.if-segments-gt16.false, le-leb _ _ c.if-domains-lt1.false, le-leb _ _ c.if-domains-gt8.false, lt-ltb _ _ c.if-domains-domain.false, eq-eqb _ _ c.if-unused-ne0.false, ← c.start_pointer.ensures, c.in-Refused.is)
+returns-in_err-p c =
+    simp (le-leb _ _ c.if-segments-lt1.false, le-leb _ _ c.if-segments-gt16.false, le-leb _ _ c.if-domains-lt1.false, le-leb _ _ c.if-domains-gt8.false, lt-ltb _ _ c.if-domains-domain.false, eq-eqb _ _ c.if-unused-ne0.false, ← c.start_pointer.ensures, c.in_err-p.was, handed_on c.from_residual.result _ c.from_residual.ensures.1)
 
-pub returns-in-Pointer : goal.returns-in-Pointer
+pub returns : goal.returns
 unfolding head_fields
-returns-in-Pointer c =
-    simp (le-leb _ _ c.if-segments-lt1.false, le-leb _ _ c.if-segments-gt16.false, le-leb _ _ c.if-domains-lt1.false, le-leb _ _ c.if-domains-gt8.false, lt-ltb _ _ c.if-domains-domain.false, eq-eqb _ _ c.if-unused-ne0.false, ← c.start_pointer.ensures, c.in-Pointer.is)
+returns c =
+    simp (le-leb _ _ c.if-segments-lt1.false, le-leb _ _ c.if-segments-gt16.false, le-leb _ _ c.if-domains-lt1.false, le-leb _ _ c.if-domains-gt8.false, lt-ltb _ _ c.if-domains-domain.false, eq-eqb _ _ c.if-unused-ne0.false, ← c.start_pointer.ensures, c.in_ok-p.was)

@@ -4,16 +4,15 @@ use Rattle.image_reader.proofs.head.start_pointer.Goals as goal
 
 pub returns-then-p : goal.returns-then-p
 returns-then-p c =
-    simp (← c.unpack.ensures, c.in-Pointer.is, c.if-p.true)
+    simp (← c.unpack.ensures, c.in-Ok.is, c.if-p.true)
 
 pub returns-then-segments-p : goal.returns-then-segments-p
 returns-then-segments-p c =
-    simp (← c.unpack.ensures, c.in-Pointer.is, c.if-p.false, le-ltb _ _ c.if-segments-p.true)
+    simp (← c.unpack.ensures, c.in-Ok.is, c.if-p.false, le-ltb _ _ c.if-segments-p.true)
 
-pub returns-in-Refused : goal.returns-in-Refused
-returns-in-Refused c =
-    simp (← c.unpack.ensures, c.in-Refused.is)
+pub returns-in_default : goal.returns-in_default
+returns-in_default c = simp (← c.unpack.ensures, c.in_default.is)
 
-pub returns-else-segments-p : goal.returns-else-segments-p
-returns-else-segments-p c =
-    simp (← c.unpack.ensures, c.in-Pointer.is, c.if-p.false, lt-ltb _ _ c.if-segments-p.false)
+pub returns : goal.returns
+returns c =
+    simp (← c.unpack.ensures, c.in-Ok.is, c.if-p.false, lt-ltb _ _ c.if-segments-p.false)
