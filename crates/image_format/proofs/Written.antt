@@ -5,6 +5,7 @@ use native.Mathlib.Nat.{add-zero, zero-add}
 use native.Mathlib.Numerals.{add-one}
 use mathlib.Core.Path.{◌≡◌, refl, sym, ap, ◌∙◌}
 use mathlib.Core.List.{List, [], ◌∷◌, ◌++◌, append_assoc, append-nil}
+use borrow.Rule.Slice.PartMut.{put_mid}
 use lib.ListN.{length, get_or, take, drop, set, length-append, length-drop, take-append-drop}
 use lib.Seq.{sets-eq, take_at, drop-append-add, drop-drop, length-take-le, paste, take-suc}
 use Rattle.image_format.specs.Bytes.{pair_bytes, word_bytes, words_bytes, joined}
@@ -77,6 +78,12 @@ pair_size n = refl
 pub written-paste : (l : List ℕ) (at : ℕ) (s : List ℕ) (n : ℕ) → n ≤ length s → paste l at s n ≡ written l at (take n s)
 unfolding written
 written-paste l at s n h = ap (λ (k : ℕ). take at l ++ take n s ++ drop (at + k) l) (sym (length-take-le n s h))
+
+-- bytes that are copied over a part of as many
+pub written-part : (l xs ys : List ℕ) (at k : ℕ) → ys ≡ xs → k ≡ length xs → put_mid at k l ys ≡ written l at xs
+unfolding written
+written-part l xs ys at k h e =
+    rw (h, e) ((λ j. take at l ++ (xs ++ drop-drop (length xs) at l j)) ∙ sym (append_assoc (take at l) xs (drop (at + length xs) l)))
 
 -- one word more
 pub words_more : (l : List ℕ) (at : ℕ) (s : List ℕ) (j : ℕ) → j < length s → at + 4 * j ≤ length l

@@ -5,7 +5,6 @@ use Rattle.state.specs.declared.record.Machine.{Machine}
 use Rattle.soundness.specs.Sound.{sound_test}
 use Rattle.words.specs.Numbers.{not_sound, memory_too_short, output_too_short}
 use Rattle.image_format.specs.Image.{image_from, bytes_of}
-use Rattle.image_writer.specs.declared.Written.{Written}
 
 -- the bytes of a machine's image, or the refusal
 unfoldable pub write_image : Machine → List ℕ → List ℕ → Answer (List ℕ)
@@ -15,10 +14,10 @@ write_image m words output =
     require (leb (length (bytes_of (image_from m.layout words))) (length output)) output_too_short >>
     ok (bytes_of (image_from m.layout words))
 
--- the number and the length that come of it
-unfoldable pub write_result : Answer (List ℕ) → Written
-write_result (refuse n) = record { number = n; length = 0 }
-write_result (ok bytes) = record { number = 0; length = length bytes }
+-- the length that comes of it, or the refusal
+unfoldable pub write_result : Answer (List ℕ) → Answer ℕ
+write_result (refuse n) = refuse n
+write_result (ok bytes) = ok (length bytes)
 
 -- the output that comes of it: the bytes from its start, or the bytes that were there
 unfoldable pub output_after : List ℕ → Answer (List ℕ) → List ℕ

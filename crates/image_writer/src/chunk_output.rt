@@ -7,7 +7,7 @@ ghost use Rattle.image_format.specs.Domain.{domain_bytes, domains_bytes};
 ghost use Rattle.image_format.specs.Image.{segments_in, domains_in};
 ghost use Rattle.image_format.specs.Output.{written};
 
-use crate::output::{put_bytes, put_header, put_pair, put_word, put_words};
+use crate::output::{put_header, put_pair, put_word, put_words};
 use image_format::Head;
 use state::record::Layout;
 use words::pointer::{Pointer, pack};
@@ -34,34 +34,28 @@ pub fn put_head(output: &mut [u8], h: Head)
     );
 }
 
-// Kind 2, for the n words from base on.
-fn put_segment(
-    output: &mut [u8],
-    at: usize,
-    gates: u16,
-    domain: u8,
-    words: &[u32],
-    base: usize,
-    n: u16,
-)
-    requires { (at + 8 + 4 * n ≤ length output.old) × (base + n ≤ length words.now) × (n ≤ 4096) }
-    ensures { output.new ≡ written output.old at (segment_bytes (record { gates = gates; domain = domain; words = take n (drop base words.now) })) }
+// Kind 2, for the words of a segment.
+fn put_segment(output: &mut [u8], at: usize, gates: u16, domain: u8, words: &[u32])
+    requires { (at + 8 + 4 * length words.now ≤ length output.old) × (length words.now ≤ 4096) }
+    ensures { output.new ≡ written output.old at (segment_bytes (record { gates = gates; domain = domain; words = words.now })) }
 {
+    let n = words.len() as u16;
     put_header(output, at, 4 + 4 * n, 2);
     put_pair(output, at + 4, gates);
     output[at + 6] = domain;
     output[at + 7] = 0;
-    put_words(output, at + 8, words, base, n as usize);
+    put_words(output, at + 8, words);
 }
 
-// Kind 3, for the n rights from base on.
-fn put_domain(output: &mut [u8], at: usize, stack: u8, rights: [u8; 128], base: usize, n: u8)
-    requires { (at + 5 + n ≤ length output.old) × (base + n ≤ 128) }
-    ensures { output.new ≡ written output.old at (domain_bytes (record { stack = stack; rights = take n (drop base rights) })) }
+// Kind 3, for the rights of a domain.
+fn put_domain(output: &mut [u8], at: usize, stack: u8, rights: &[u8])
+    requires { (at + 5 + length rights.now ≤ length output.old) × (length rights.now ≤ 16) }
+    ensures { output.new ≡ written output.old at (domain_bytes (record { stack = stack; rights = rights.now })) }
 {
+    let n = rights.len();
     put_header(output, at, 1 + n as u16, 3);
     output[at + 4] = stack;
-    put_bytes(output, at + 5, rights, base, n as usize);
+    output[at + 5..at + 5 + n].copy_from_slice(rights);
 }
 
 // Kind 2 for each segment, from a place on; the place after them.
@@ -72,19 +66,19 @@ pub fn put_segments(output: &mut [u8], start: usize, layout: Layout, words: &[u3
     ensures value { result ≡ start + length (segments_bytes (segments_in layout words.now)) }
     ensures output_after { output.new ≡ written output.old start (segments_bytes (segments_in layout words.now)) }
 {
-    let lengths = layout.lengths;
-    let gates = layout.gates;
-    let gatedomains = layout.gatedomains;
-    let count = layout.segments as usize;
     let mut at = start;
-    let mut base = 0usize;
-    let mut i = 0usize;
-    while i < count {
-        let n = lengths[i];
-        put_segment(output, at, gates[i], gatedomains[i], words, base, n);
-        at += 8 + 4 * n as usize;
-        base += n as usize;
-        i += 1;
+    let mut base = 0;
+    for i in 0..layout.segments as usize {
+        let n = layout.lengths[i] as usize;
+        put_segment(
+            output,
+            at,
+            layout.gates[i],
+            layout.gatedomains[i],
+            &words[base..base + n],
+        );
+        at += 8 + 4 * n;
+        base += n;
     }
     at
 }
@@ -96,15 +90,16 @@ pub fn put_domains(output: &mut [u8], start: usize, layout: Layout) -> usize
     ensures value { result ≡ start + length (domains_bytes (domains_in layout)) }
     ensures output_after { output.new ≡ written output.old start (domains_bytes (domains_in layout)) }
 {
-    let stacks = layout.stacks;
-    let rights = layout.rights;
-    let count = layout.domains as usize;
+    let n = layout.segments as usize;
     let mut at = start;
-    let mut i = 0usize;
-    while i < count {
-        put_domain(output, at, stacks[i], rights, 16 * i, layout.segments);
-        at += 5 + layout.segments as usize;
-        i += 1;
+    for i in 0..layout.domains as usize {
+        put_domain(
+            output,
+            at,
+            layout.stacks[i],
+            &layout.rights[16 * i..16 * i + n],
+        );
+        at += 5 + n;
     }
     at
 }

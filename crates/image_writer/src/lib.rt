@@ -6,6 +6,7 @@ mod chunk_output;
 mod output;
 
 ghost use Rattle.std.specs.Prelude.{◌≡◌, true, ◌++◌, ◌≤◌, length, drop};
+ghost use Rattle.words.specs.Refusal.{answer};
 ghost use Rattle.layout_soundness.specs.SoundLayout.{ranges_test};
 ghost use Rattle.image_format.specs.Image.{image_from, bytes_of};
 ghost use Rattle.image_writer.specs.Writer.{write_image, write_result, output_after};
@@ -16,13 +17,7 @@ use image_format::Head;
 use soundness::sound;
 use state::bases::words_in;
 use state::record::{Layout, Machine};
-
-// 0 and the length of the image that was written, or the number of the refusal and 0.
-#[derive(Clone, Copy)]
-pub struct Written {
-    pub length: usize,
-    pub number: u8,
-}
+use words::refusal::Refusal;
 
 // The length of the image of a layout.
 fn size(layout: Layout, words: &[u32]) -> usize
@@ -56,34 +51,22 @@ fn put_image(output: &mut [u8], layout: Layout, words: &[u32])
     put_header(output, end, 0, 4);
 }
 
-// Writes the image of a machine and its memory. Refused, the output is as it was.
-pub fn write(m: Machine, words: &[u32], output: &mut [u8]) -> Written
-    ensures value { result ≡ write_result (write_image m words.now output.old) }
+// Writes the image of a machine and its memory, and gives its length. Refused, the output is as it was.
+pub fn write(m: Machine, words: &[u32], output: &mut [u8]) -> Result<usize, Refusal>
+    ensures value { answer result ≡ write_result (write_image m words.now output.old) }
     ensures output_after { output.new ≡ output_after output.old (write_image m words.now output.old) }
 {
     if !sound(m) {
-        return Written {
-            number: 9,
-            length: 0,
-        };
+        return Err(Refusal::NotSound);
     }
     if words.len() < 8192 {
-        return Written {
-            number: 7,
-            length: 0,
-        };
+        return Err(Refusal::MemoryTooShort);
     }
     let layout = m.layout;
     let n = size(layout, words);
     if output.len() < n {
-        return Written {
-            number: 8,
-            length: 0,
-        };
+        return Err(Refusal::OutputTooShort);
     }
     put_image(output, layout, words);
-    Written {
-        number: 0,
-        length: n,
-    }
+    Ok(n)
 }

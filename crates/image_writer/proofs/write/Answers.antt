@@ -1,5 +1,5 @@
 -- `image_writer::write` meets its contract.
-use Prim.Native.Nat.{ℕ, ◌≤◌}
+use Prim.Native.Nat.{◌≤◌}
 use native.Mathlib.Omega.{arith}
 use mathlib.Core.Path.{◌≡◌, refl, sym, ap, ◌∙◌}
 use mathlib.Core.Bool.{true}
@@ -49,4 +49,4 @@ unfolding write_result output_after
 returns c =
     let a = c.args in
     let w = given (goal.at.returns c).Else-output-n in
-    record { value = ap (λ (k : ℕ). record { number = 0; length = k }) c.size-n.ensures ∙ sym (ap write_result w); output_after = c.put_image.ensures ∙ sym (ap (output_after a.output.now) w) }
+    record { value = ap ok c.size-n.ensures ∙ sym (ap write_result w); output_after = c.put_image.ensures ∙ sym (ap (output_after a.output.now) w) }

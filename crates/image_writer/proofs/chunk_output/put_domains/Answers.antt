@@ -1,5 +1,5 @@
 -- `image_writer::chunk_output::put_domains` meets its contract.
-use Prim.Native.Nat.{ℕ, ◌+◌, ◌≤◌, ◌<◌}
+use Prim.Native.Nat.{ℕ, ◌+◌, ◌-◌, ◌*◌, ◌≤◌, ◌<◌}
 use native.Mathlib.Omega.{arith}
 use mathlib.Core.Path.{◌≡◌, sym, ap, ◌∙◌}
 use borrow.Author.Rules.{rules}
@@ -41,17 +41,17 @@ module _ (c : In-loop-i) where
 pub loop-i-init : goal.loop-i-init
 loop-i-init c = put-none c.requires.layout_in_bounds
 
-pub bounds-stacks-i : goal.bounds-stacks-i
-bounds-stacks-i c = let h = few (goal.at.bounds-stacks-i c).In-loop-i in search rules
+pub bounds-layout-i : goal.bounds-layout-i
+bounds-layout-i c = let h = few (goal.at.bounds-layout-i c).In-loop-i in search rules
+
+pub slice_bounds-put_domain-end : goal.slice_bounds-put_domain-end
+slice_bounds-put_domain-end c = omega (arith, few (goal.at.slice_bounds-put_domain-end c).In-loop-i, (sound (first (goal.at.slice_bounds-put_domain-end c).At-loop-i)).segments)
 
 pub overflow_mul-i : goal.overflow_mul-i
 overflow_mul-i c = let h = few (goal.at.overflow_mul-i c).In-loop-i in search rules
 
 pub put_domain-requires : goal.put_domain-requires
 put_domain-requires c = (omega (arith, room (goal.at.put_domain-requires c).In-loop-i, put-length c.loop-i.invariant), omega (arith, few (goal.at.put_domain-requires c).In-loop-i, (sound (first (goal.at.put_domain-requires c).At-loop-i)).segments))
-
-pub overflow_cast-at : goal.overflow_cast-at
-overflow_cast-at c = let h = room (goal.at.overflow_cast-at c).In-loop-i in search rules
 
 pub overflow_add-at : goal.overflow_add-at
 overflow_add-at c = let h = room (goal.at.overflow_add-at c).In-loop-i in search rules
@@ -60,7 +60,11 @@ pub overflow_add-at-in-loop-i : goal.overflow_add-at-in-loop-i
 overflow_add-at-in-loop-i c = let h = room (goal.at.overflow_add-at-in-loop-i c).In-loop-i in search rules
 
 pub loop-i-preserved : goal.loop-i-preserved
-loop-i-preserved c = let l = c.loop-i in put_next l.invariant c.loop-i-test.true c.put_domain.ensures (ap (λ (j : ℕ). l.at + j) (sym (size (goal.at.loop-i-preserved c).In-loop-i)))
+loop-i-preserved c =
+    let l = c.loop-i in
+    let n = c.args.layout.segments in
+    let e : 16 * l.i + n - 16 * l.i ≡ n = omega arith in
+    put_next l.invariant c.loop-i-test.true (rw e at c.put_domain.ensures) (ap (λ (j : ℕ). l.at + j) (sym (size (goal.at.loop-i-preserved c).In-loop-i)))
 
 pub shape_of-output : goal.shape_of-output
 shape_of-output c = put-length c.loop-i.invariant

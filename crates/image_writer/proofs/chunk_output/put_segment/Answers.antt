@@ -3,8 +3,7 @@ use Prim.Native.Nat.{ℕ, suc, ◌+◌, ◌*◌}
 use native.Mathlib.Omega.{arith}
 use mathlib.Core.Path.{◌≡◌, refl, ap, ◌∙◌}
 use mathlib.Core.List.{◌∷◌, ◌++◌}
-use lib.ListN.{length, length-set, take, drop, length-drop}
-use lib.Seq.{length-take-le}
+use lib.ListN.{length, length-set}
 use Rattle.image_format.specs.Bytes.{pair_bytes, words_bytes}
 use Rattle.image_format.specs.Chunk.{chunk_bytes}
 use Rattle.image_format.specs.Segment.{Segment, segment_bytes}
@@ -18,15 +17,11 @@ pub bounds-output-at-2 : goal.bounds-output-at-2
 bounds-output-at-2 c = simp length-set (omega arith)
 
 pub put_words-requires : goal.put_words-requires
-put_words-requires c =
-    (simp length-set (omega arith), c.requires.1)
+put_words-requires c = simp length-set (omega arith)
 
 -- the segment that is written
 abbrev segment_put : Start → Segment
-segment_put s = record { gates = s.args.gates; domain = s.args.domain; words = take s.args.n (drop s.args.base s.args.words.now) }
-
-count : (s : Start) → length (segment_put s).words ≡ s.args.n
-count s = length-take-le s.args.n (drop s.args.base s.args.words.now) (omega (arith, s.requires.1, length-drop s.args.base s.args.words.now))
+segment_put s = record { gates = s.args.gates; domain = s.args.domain; words = s.args.words.now }
 
 -- the bytes that are written
 all : (c : After-put_words) → c.put_words.new.output ≡ written c.args.output.now c.args.at (segment_bytes (segment_put (goal.at.After-put_words c).Start))
@@ -34,9 +29,9 @@ unfolding segment_bytes chunk_bytes pair_bytes
 all c =
     let a = c.args in
     let r = c.requires.0 in
-    let ws = (segment_put (goal.at.After-put_words c).Start).words in
-    let size : length (words_bytes ws) ≡ 4 * a.n = words_size ws ∙ ap (λ (k : ℕ). 4 * k) (count (goal.at.After-put_words c).Start) in
-    let k : 4 + 4 * a.n ≡ suc (suc (suc (suc (length (words_bytes ws))))) = omega arith in
+    let ws = a.words.now in
+    let size : length (words_bytes ws) ≡ 4 * length ws = words_size ws in
+    let k : 4 + 4 * length ws ≡ suc (suc (suc (suc (length (words_bytes ws))))) = omega arith in
     let e4 = then-bytes _ _ _ _ c.put_header.ensures (pair_bytes a.gates) (a.at + 4) c.put_pair.ensures (omega arith) refl in
     let e6 = then-byte _ _ _ _ e4 a.domain (a.at + 6) (omega arith) refl in
     let e7 = then-byte _ _ _ _ e6 0 (a.at + 7) (omega arith) refl in
@@ -45,7 +40,7 @@ all c =
 
 pub shape_of-output : goal.shape_of-output
 shape_of-output c =
-    then-length c.args.output.now _ (segment_bytes (segment_put (goal.at.shape_of-output c).Start)) c.args.at (all (goal.at.shape_of-output c).After-put_words) (omega (arith, c.requires.0, segment-size (segment_put (goal.at.shape_of-output c).Start), count (goal.at.shape_of-output c).Start))
+    then-length c.args.output.now _ (segment_bytes (segment_put (goal.at.shape_of-output c).Start)) c.args.at (all (goal.at.shape_of-output c).After-put_words) (omega (arith, c.requires.0, segment-size (segment_put (goal.at.shape_of-output c).Start)))
 
 pub returns : goal.returns
 returns c = all (goal.at.returns c).After-put_words

@@ -1,9 +1,10 @@
 -- `image_writer::chunk_output::put_segments` meets its contract.
-use Prim.Native.Nat.{ℕ, ◌+◌, ◌*◌, ◌≤◌, ◌<◌}
+use Prim.Native.Nat.{ℕ, ◌+◌, ◌-◌, ◌*◌, ◌≤◌, ◌<◌}
 use native.Mathlib.Omega.{arith}
 use mathlib.Core.Path.{◌≡◌, sym, ap, ◌∙◌}
 use borrow.Author.Rules.{rules}
-use lib.ListN.{length, get_or}
+use lib.ListN.{length, get_or, take, drop, length-drop}
+use lib.Seq.{length-take-le}
 use Rattle.state.proofs.Sums.{base-next, base-zero}
 use Rattle.soundness.proofs.Facts.{LayoutSound, layout-facts}
 use Rattle.image_format.specs.Segment.{segment_bytes}
@@ -42,32 +43,34 @@ module _ (c : In-loop-i) where
   fits : l.loop-i.base + n ≤ 8192
   fits = omega (arith, l.loop-i.invariant.0, base-fits s.args.layout (sound s) l.loop-i.i few)
 
+  whole : l.loop-i.base + n - l.loop-i.base ≡ n
+  whole = omega arith
+
+  part : length (take (l.loop-i.base + n - l.loop-i.base) (drop l.loop-i.base s.args.words.now)) ≡ n
+  part = rw whole (length-take-le n (drop l.loop-i.base s.args.words.now) (omega (arith, fits, length-drop l.loop-i.base s.args.words.now, s.requires.in_bounds)))
+
 pub loop-i-init : goal.loop-i-init
 loop-i-init c = (sym (base-zero _), put-none c.requires.words_in_bounds)
 
-pub offset_bounds-lengths-i : goal.offset_bounds-lengths-i
-offset_bounds-lengths-i c = omega (arith, (sound (goal.at.offset_bounds-lengths-i c).Start).segments, c.loop-i-test.true)
+pub bounds-layout-i : goal.bounds-layout-i
+bounds-layout-i c = let h = few (goal.at.bounds-layout-i c).In-loop-i in search rules
 
-pub bounds-lengths-i : goal.bounds-lengths-i
-bounds-lengths-i c = omega (arith, (sound (goal.at.bounds-lengths-i c).Start).segments, c.loop-i-test.true)
+pub bounds-layout-i-in-loop-i : goal.bounds-layout-i-in-loop-i
+bounds-layout-i-in-loop-i c = let h = few (goal.at.bounds-layout-i-in-loop-i c).In-loop-i in search rules
 
-pub offset_bounds-gates-i : goal.offset_bounds-gates-i
-offset_bounds-gates-i c = let h = few (goal.at.offset_bounds-gates-i c).In-loop-i in search rules
+pub bounds-layout-i-in-loop-i-2 : goal.bounds-layout-i-in-loop-i-2
+bounds-layout-i-in-loop-i-2 c = let h = few (goal.at.bounds-layout-i-in-loop-i-2 c).In-loop-i in search rules
 
-pub bounds-gates-i : goal.bounds-gates-i
-bounds-gates-i c = let h = few (goal.at.bounds-gates-i c).In-loop-i in search rules
+pub offset_bounds-words-base : goal.offset_bounds-words-base
+offset_bounds-words-base c = omega (arith, fits (goal.at.offset_bounds-words-base c).In-loop-i)
 
-pub bounds-gatedomains-i : goal.bounds-gatedomains-i
-bounds-gatedomains-i c = let h = few (goal.at.bounds-gatedomains-i c).In-loop-i in search rules
+pub slice_bounds-put_segment-end : goal.slice_bounds-put_segment-end
+slice_bounds-put_segment-end c = omega (arith, fits (goal.at.slice_bounds-put_segment-end c).In-loop-i, c.requires.in_bounds)
 
 pub put_segment-requires : goal.put_segment-requires
-put_segment-requires c = let s = first (goal.at.put_segment-requires c).At-loop-i in (omega (arith, room (goal.at.put_segment-requires c).In-loop-i, put-length c.loop-i.invariant.1), omega (arith, fits (goal.at.put_segment-requires c).In-loop-i, s.requires.in_bounds), (sound s).lengths c.loop-i.i (few (goal.at.put_segment-requires c).In-loop-i))
-
-pub overflow_cast-at : goal.overflow_cast-at
-overflow_cast-at c = let h = room (goal.at.overflow_cast-at c).In-loop-i in search rules
-
-pub overflow_mul-at : goal.overflow_mul-at
-overflow_mul-at c = let h = room (goal.at.overflow_mul-at c).In-loop-i in search rules
+put_segment-requires c =
+    let d = (goal.at.put_segment-requires c).In-loop-i in
+    (omega (arith, room d, put-length c.loop-i.invariant.1, part d), omega (arith, part d, (sound (goal.at.put_segment-requires c).Start).lengths c.loop-i.i (few d)))
 
 pub overflow_add-at : goal.overflow_add-at
 overflow_add-at c = let h = room (goal.at.overflow_add-at c).In-loop-i in search rules
@@ -75,15 +78,12 @@ overflow_add-at c = let h = room (goal.at.overflow_add-at c).In-loop-i in search
 pub overflow_add-at-in-loop-i : goal.overflow_add-at-in-loop-i
 overflow_add-at-in-loop-i c = let h = room (goal.at.overflow_add-at-in-loop-i c).In-loop-i in search rules
 
-pub overflow_cast-base : goal.overflow_cast-base
-overflow_cast-base c = let h = fits (goal.at.overflow_cast-base c).In-loop-i in search rules
-
 pub overflow_add-base : goal.overflow_add-base
 overflow_add-base c = let h = fits (goal.at.overflow_add-base c).In-loop-i in search rules
 
 pub loop-i-preserved : goal.loop-i-preserved
 loop-i-preserved c = let l = c.loop-i in
-    (ap (λ (b : ℕ). b + n (goal.at.loop-i-preserved c).In-loop-i) l.invariant.0 ∙ sym (base-next _ l.i), put_next l.invariant.1 c.loop-i-test.true (rw l.invariant.0 at c.put_segment.ensures) (ap (λ (j : ℕ). l.at + j) (sym (size (goal.at.loop-i-preserved c).In-loop-i))))
+    (ap (λ (b : ℕ). b + n (goal.at.loop-i-preserved c).In-loop-i) l.invariant.0 ∙ sym (base-next _ l.i), put_next l.invariant.1 c.loop-i-test.true (rw (whole (goal.at.loop-i-preserved c).In-loop-i, l.invariant.0) at c.put_segment.ensures) (ap (λ (j : ℕ). l.at + j) (sym (size (goal.at.loop-i-preserved c).In-loop-i))))
 
 pub shape_of-output : goal.shape_of-output
 shape_of-output c = put-length c.loop-i.invariant.1

@@ -1,17 +1,22 @@
 -- `image_writer::output::put_word` meets its contract.
-use Prim.Native.Nat.{◌+◌, ◌/◌, ◌%◌}
+use Prim.Native.Nat.{ℕ, ◌/◌, ◌%◌}
 use native.Mathlib.Omega.{arith}
-use mathlib.Core.Path.{ap, ◌∙◌}
-use mathlib.Core.List.{List}
-use Prim.Native.Nat.{ℕ}
+use mathlib.Core.Path.{◌≡◌, ◌∙◌}
+use mathlib.Core.List.{[], ◌∷◌}
 use Rattle.image_format.specs.Bytes.{word_bytes, pair_bytes}
-use Rattle.image_format.specs.Output.{written}
-use Rattle.image_format.proofs.Written.{written-more}
+use Rattle.image_format.proofs.Written.{written-part, word_size}
 use Rattle.image_writer.proofs.output.put_word.Goals as goal
 
-pub returns : goal.returns
+-- the four bytes of a word, pair by pair
+bytes-are : (w : ℕ) → w % 256 ∷ w / 256 % 256 ∷ w / 65536 % 256 ∷ w / 16777216 % 256 ∷ [] ≡ word_bytes w
 unfolding word_bytes pair_bytes
+bytes-are w =
+    let a : w % 256 ≡ w % 65536 % 256 = omega arith in
+    let b : w / 256 % 256 ≡ w % 65536 / 256 % 256 = omega arith in
+    let d : w / 16777216 % 256 ≡ w / 65536 / 256 % 256 = omega arith in
+    λ j. a j ∷ b j ∷ w / 65536 % 256 ∷ d j ∷ []
+
+pub returns : goal.returns
 returns c =
     let a = c.args in
-    c.put_pair-2.ensures ∙ ap (λ (m : List ℕ). written m (a.at + 2) (pair_bytes (a.w / 65536))) c.put_pair.ensures ∙
-    written-more a.output.now a.at (pair_bytes (a.w % 65536)) (pair_bytes (a.w / 65536)) (a.at + 2) (omega (arith, c.requires)) (omega arith)
+    written-part a.output.now _ _ a.at _ (c.copy_from_slice.ensures.after ∙ c.to_le_bytes.ensures ∙ bytes-are a.w) (omega (arith, word_size a.w))

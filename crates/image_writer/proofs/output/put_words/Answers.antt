@@ -1,41 +1,39 @@
 -- `image_writer::output::put_words` meets its contract.
 use Prim.Native.Nat.{ℕ, ◌+◌, ◌*◌}
 use native.Mathlib.Omega.{arith}
-use mathlib.Core.Path.{◌≡◌, refl, sym, ap, ◌∙◌}
-use borrow.Author.Rules.{rules}
-use lib.ListN.{length, take, drop, length-drop}
-use lib.Seq.{get_or-drop, length-take-le}
+use mathlib.Core.Path.{◌≡◌, refl, ap, ◌∙◌}
+use mathlib.Core.List.{List}
+use lib.ListN.{length, get_or, take}
+use lib.Seq.{length-take-le, take_all}
 use Rattle.image_format.specs.Bytes.{word_bytes, words_bytes, joined}
 use Rattle.image_format.specs.Output.{written}
 use Rattle.image_format.proofs.Written.{written_none, written-length, words_more, words_size}
 use Rattle.image_writer.proofs.output.put_words.Goals as goal
 
-pub loop-j-init : goal.loop-j-init
+pub loop-word-init : goal.loop-word-init
 unfolding joined
-loop-j-init c =
+loop-word-init c =
     let a = c.args in
-    (search rules, written_none a.output.now a.at, refl)
+    (omega arith, written_none a.output.now a.at, refl)
 
 pub put_word-requires : goal.put_word-requires
 put_word-requires c =
-    omega (arith, c.loop-j.invariant.2, c.loop-j-test.true, c.requires.0)
+    omega (arith, c.loop-word.invariant.0, c.loop-word.invariant.2, c.loop-word-test.true, c.requires)
 
-pub loop-j-preserved : goal.loop-j-preserved
-loop-j-preserved c =
+pub loop-word-preserved : goal.loop-word-preserved
+loop-word-preserved c =
     let a = c.args in
-    let ws = drop a.base a.words.now in
-    let j = c.loop-j.j in
-    let less = c.loop-j-test.true in
-    let e = c.put_word.ensures ∙
-    (λ k. written (c.loop-j.invariant.1 k) (a.at + 4 * j) (word_bytes (sym (get_or-drop a.base a.words.now j 0) k))) ∙
-    words_more a.output.now a.at ws j (omega (arith, length-drop a.base a.words.now, c.requires.1, less)) (omega (arith, c.requires.0, less)) in
-    (search rules, e, ap length e ∙ written-length a.output.now a.at (words_bytes (take (j + 1) ws)) (omega (arith, words_size (take (j + 1) ws), length-take-le (j + 1) ws (omega (arith, length-drop a.base a.words.now, c.requires.1, less)), c.requires.0, less)))
+    let ws = a.words.now in
+    let j = c.loop-word.word-index in
+    let less = c.loop-word-test.true in
+    let at : c.loop-word.place ≡ a.at + 4 * j = c.loop-word.invariant.0 in
+    let e = c.put_word.ensures ∙ (λ k. written (c.loop-word.invariant.1 k) (at k) (word_bytes (get_or ws j 0))) ∙ words_more a.output.now a.at ws j less (omega (arith, c.requires, less)) in
+    (omega (arith, at), e, ap length e ∙ written-length a.output.now a.at (words_bytes (take (j + 1) ws)) (omega (arith, words_size (take (j + 1) ws), length-take-le (j + 1) ws (omega (arith, less)), c.requires, less)))
 
 pub shape_of-output : goal.shape_of-output
-shape_of-output c = c.loop-j.invariant.2
+shape_of-output c = c.loop-word.invariant.2
 
 pub returns : goal.returns
 returns c =
     let a = c.args in
-    let e : c.loop-j.j ≡ a.n = omega (arith, c.loop-j.invariant.0, c.loop-j-test.false) in
-    c.loop-j.invariant.1 ∙ ap (λ (k : ℕ). written a.output.now a.at (words_bytes (take k (drop a.base a.words.now)))) e
+    c.loop-word.invariant.1 ∙ ap (λ (ws : List ℕ). written a.output.now a.at (words_bytes ws)) (take_all c.loop-word.word-index a.words.now c.loop-word-test.false)
