@@ -8,6 +8,5 @@ ghost use Rattle.std.specs.Prelude.{◌≡◌, min};
 pub fn rows_used(used: u8, most: usize) -> usize
     ensures { result ≡ min used most }
 {
-    let n = used as usize;
-    if n < most { n } else { most }
+    usize::from(used).min(most)
 }
