@@ -9,6 +9,7 @@ mod rows;
 
 ghost use Rattle.std.specs.Prelude.{◌≡◌};
 ghost use Rattle.words.specs.Answer.{number_of};
+ghost use Rattle.words.specs.Refusal.{status};
 ghost use Rattle.snapshot_reader.specs.Formed.{formed, record_or};
 
 use crate::parts::{layout, registers};
@@ -16,24 +17,19 @@ use crate::proper::{frames_proper, recent_proper, tags_proper};
 use crate::rows::{frames, pointers, recent};
 use fresh::{empty_layout, fresh};
 use state::record::Machine;
+use words::refusal::Refusal;
 
-// 0, or why bytes hold no record: 8 where they are too few, 9 where they are no record's.
-pub fn form_number(bytes: &[u8]) -> u8
-    ensures { result ≡ number_of (formed bytes.now) }
+// Whether bytes hold a record: they do not where they are too few, or no record has them.
+pub fn form_number(bytes: &[u8]) -> Result<(), Refusal>
+    ensures { status result ≡ number_of (formed bytes.now) }
 {
     if bytes.len() < 1079 {
-        return 8;
+        return Err(Refusal::OutputTooShort);
     }
-    if !tags_proper(bytes) {
-        return 9;
+    if !tags_proper(bytes) || !frames_proper(bytes) || !recent_proper(bytes) {
+        return Err(Refusal::NotSound);
     }
-    if !frames_proper(bytes) {
-        return 9;
-    }
-    if !recent_proper(bytes) {
-        return 9;
-    }
-    0
+    Ok(())
 }
 
 // The record in bytes; the empty one where they are too few.
