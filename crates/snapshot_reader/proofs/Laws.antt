@@ -1,25 +1,36 @@
 -- Loops that test each byte, loops that set the rows in use, and which bytes of a record are looked at.
-use Rattle.std.specs.Prelude.{if◌then◌else◌}
-use Prim.Native.Nat.{ℕ, ◌+◌, ◌<◌, ◌≤◌, min}
+use Prim.Native.Nat.{ℕ, zero, suc, ◌+◌, ◌<◌, ◌≤◌, ◌-◌, max}
 use native.Mathlib.Omega.{arith}
-use native.Mathlib.Decide.{ℕ_discrete, dec_lt}
+use native.Mathlib.Decide.{ℕ_discrete}
 use native.Mathlib.Numerals.{add-one}
-use mathlib.Core.Path.{◌≡◌, refl, sym, ap, ◌∙◌}
-use mathlib.Core.Bool.{Bool, ◌&&◌}
+use mathlib.Core.Path.{◌≡◌, refl, sym, ap, ◌∙◌, subst}
+use mathlib.Core.Bool.{Bool, true, false, ◌&&◌}
 use mathlib.Core.List.{List}
-use borrow.Author.Tests.{le-leb, lt-ltb, le-ltb, eq-eqb, ne_eqb}
-use lib.Dec.{eqb, ltb}
-use lib.ListN.{length, get_or, set, replicate, length-replicate, get_or-replicate}
-use lib.Seq.{get_or-set_other}
+use borrow.Author.Tests.{le-leb, eq-eqb, ne_eqb}
+use lib.Dec.{eqb}
+use lib.ListN.{length, get_or, take, drop}
+use Rattle.std.proofs.iter.Yields.{nat_range_steps}
+use Rattle.std.proofs.lemmas.Iterator.{cases_from_all, YieldsList-from_range}
+use Rattle.std.proofs.lemmas.List.FromFn.{length-range_with_len, get_or-range_with_len}
+use Rattle.std.specs.Bool.{MatchBool}
+use Rattle.std.specs.Iterator.{YieldsThen}
+use Rattle.std.specs.List.{range_with_len, FoldsTo, AllWithin, HoldsAt}
+use Rattle.std.specs.Option.{MatchOption}
+use Rattle.std.specs.Prelude.{Option}
+use Rattle.std.specs.declared.ops.Range.{Range}
+use Rattle.std.specs.Array.{IsFromFnResult, IsFromFnResultFrom}
+use denote.Param.Members.{Mut, Called}
+use lib.Seq.{ext_get_or, get_or-take}
+use Rattle.std.proofs.lemmas.List.{get_or-drop}
 use Rattle.words.specs.Answer.{require, number_of}
 use Rattle.words.specs.Numbers.{not_sound}
 use Rattle.layout_soundness.specs.SoundLayout.{all_from}
-use Rattle.layout_soundness.proofs.All.{one_more}
+use Rattle.layout_soundness.proofs.All.{one_more, each, all}
 use Rattle.state.specs.Record.{free_frame}
 use Rattle.snapshot_format.specs.Tabulate.{tabulate}
 use Rattle.snapshot_format.specs.Format.{rows_of, counted, zeros}
 use Rattle.snapshot_format.specs.RecordForm.{pointer_form, frame_form, register_form, record_form}
-use Rattle.snapshot_format.proofs.Fill.{Filled, filled_none, filled_next, filled-all}
+use Rattle.snapshot_format.proofs.Fill.{tabulate-length, tabulate-at}
 use Rattle.snapshot_reader.specs.Formed.{formed}
 
 -- the number that enough bytes get: those of the pointers, of the frames and of the recent capabilities decide it
@@ -48,30 +59,48 @@ zero-both a x h p q r = by (ℕ_discrete a 0) (ℕ_discrete x 0)
     by (yes e) (no f) = simp (eq-eqb a 0 e, ne_eqb x 0 f, ne_eqb h 0 (λ z. f (omega arith)))
     by (no e) f = simp (ne_eqb a 0 e, ne_eqb h 0 (λ z. e (omega arith)))
 
-pub zeros-next : (b : List ℕ) (i k a h : ℕ) → eqb a 0 ≡ zeros b i k → a ≤ h → get_or b (i + k) 0 ≤ h → h ≤ a + get_or b (i + k) 0 → eqb h 0 ≡ zeros b i (k + 1)
-zeros-next b i k a h e p q r =
-    zero-both a (get_or b (i + k) 0) h p q r ∙ ap (λ (t : Bool). t && eqb (get_or b (i + k) 0) 0) e ∙ sym (all-next (λ j. eqb (get_or b j 0) 0) k i)
+pub zeros-next : (b : List ℕ) (i n k a : ℕ) → i + n ≤ length b → k < n → eqb a 0 ≡ zeros b i k → eqb (max a (get_or (take (i + n - i) (drop i b)) k 0)) 0 ≡ zeros b i (k + 1)
+zeros-next b i n k a l m e =
+    let x : get_or (take (i + n - i) (drop i b)) k 0 ≡ get_or b (i + k) 0 = get_or-take (i + n - i) (drop i b) k 0 (omega arith) ∙ get_or-drop i b k 0 in
+    rw x
+    (zero-both a (get_or b (i + k) 0) (max a (get_or b (i + k) 0)) (omega arith) (omega arith) (omega arith) ∙ ap (λ (t : Bool). t && eqb (get_or b (i + k) 0) 0) e ∙ sym (all-next (λ j. eqb (get_or b j 0) 0) k i))
 
--- the rows below k are set as those in use, the others hold none
-pub record Begun {A : Type 0} (n : ℕ) (none : A) (count : ℕ) (g : ℕ → A) (xs : List A) (k : ℕ) : Type 0 where
-  pub filled : Filled n none (λ j. if ltb j count then g j else none) xs k
-  pub rest : (j : ℕ) → k ≤ j → j < n → get_or xs j none ≡ none
+-- an array made by calls that change nothing
+module _ {F A : Type 0} (g : Mut F (ℕ × Unit {0}) A) (f : F) (h : ℕ → A) (d : A) (ys : List A) (same : (k : ℕ) (y : A) (q : F) → Called g f (k, tt) y q → (q ≡ f) × (y ≡ h k)) where
+  made-from : (n i : ℕ) (p : F) → p ≡ f → IsFromFnResultFrom g p ys i n → (k : ℕ) → i ≤ k → k < i + n → get_or ys k d ≡ h k
+  made-from zero i p e m k a b = absurd (omega arith)
+  made-from (suc n) i p e m k a b =
+      let s = same i m.1 m.0 (subst (λ (r : F). Called g r (i, tt) m.1 m.0) e m.3) in
+      by (ℕ_discrete i k) (m.2.1 d ∙ s.1) (λ l. made-from n (i + 1) m.0 s.0 m.4 k l (omega arith))
+    where
+      by : Dec (i ≡ k) → get_or ys i d ≡ h i → (i + 1 ≤ k → get_or ys k d ≡ h k) → get_or ys k d ≡ h k
+      by (yes q) t r = subst (λ (j : ℕ). get_or ys j d ≡ h j) q t
+      by (no q) t r = r (omega (arith, q))
 
-module _ {A : Type 0} (n : ℕ) (none : A) (count : ℕ) (g : ℕ → A) where
-  pub begun-none : {x : A} → x ≡ none → Begun n none count g (replicate n x) 0
-  begun-none {x} e = record { filled = filled_none _ _ _ _ (length-replicate n x); rest = λ j a b. get_or-replicate n j x none b ∙ e }
+  pub made : (n : ℕ) → IsFromFnResult g f ys n → ys ≡ tabulate n h
+  made n m =
+      ext_get_or d ys (tabulate n h) (m.long ∙ sym (tabulate-length h n))
+      (λ k l. made-from n 0 f refl m.each k (omega arith) (omega (arith, m.long)) ∙ sym (tabulate-at h d n k (omega (arith, m.long))))
 
-  module _ (xs : List A) (k : ℕ) (s : Begun n none count g xs k) where
-    pub begun-next : (x : A) → k < min count n → x ≡ g k → Begun n none count g (set xs k x) (k + 1)
-    begun-next x h e =
-        record {
-          filled = filled_next _ _ _ _ _ _ s.filled (omega arith) (simp (lt-ltb k count (omega arith)) e);
-          rest = λ j a b. get_or-set_other xs k j x none (λ q. omega arith) ∙ s.rest j (omega arith) b;
-        }
+one-fails : (n : ℕ) (p : ℕ → Bool) (k : ℕ) → k < n → p k ≡ false → false ≡ all_from n 0 p
+one-fails n p k h e = by (all_from n 0 p) refl
+  where
+    by : (t : Bool) → all_from n 0 p ≡ t → false ≡ t
+    by true q = sym e ∙ each n p q k h
+    by false q = refl
 
-    pub begun_all : min count n ≤ k → xs ≡ tabulate n (λ j. if ltb j count then g j else none)
-    begun_all h = filled-all n _ _ _ n (omega arith) (record { most = omega arith; room = s.filled.room; values = λ j l. at j l (dec_lt j k) })
-      where
-        at : (j : ℕ) → j < n → Dec (j < k) → get_or xs j none ≡ (if ltb j count then g j else none)
-        at j l (yes p) = s.filled.values j p
-        at j l (no ne) = simp (le-ltb j count (omega (arith, ne))) (s.rest j (omega (arith, ne)) l)
+-- a test of each number below n by calls that change nothing
+module _ {F : Type 0} (g : Mut F (ℕ × Unit {0}) Bool) (f : F) (p : ℕ → Bool) (r : Bool) (same : (k : ℕ) (y : Bool) (q : F) → Called g f (k, tt) y q → (q ≡ f) × (y ≡ p k)) where
+  pub tested : (n : ℕ) (u : Range ℕ) → (xs : List ℕ) × (o : Option ℕ) × (j : F) × YieldsThen nat_range_steps (record { start = 0; end = n }) xs o u × FoldsTo (λ q x s. Called g q (x, tt) true s) f xs j × MatchOption o (r ≡ true) (λ x. (r ≡ false) × ((h : F) × Called g j (x, tt) false h)) → r ≡ all_from n 0 p
+  tested n u ran =
+      by r
+      (cases_from_all u f r (λ k. p k ≡ true) (λ k. p k ≡ false) ran (YieldsList-from_range 0 n n refl (omega arith)) (λ x q c. let s = same x true q c in (s.0, sym s.1)) (λ x q c. sym (same x false q c).1))
+    where
+      there : (k : ℕ) → k < n → get_or (range_with_len 0 n) k 0 ≡ k
+      there k h = get_or-range_with_len 0 n k 0 h ∙ omega arith
+
+      by : (t : Bool) → MatchBool t (AllWithin (λ k. p k ≡ true) (range_with_len 0 n) 0 (length (range_with_len 0 n))) ((k : ℕ) × (k < length (range_with_len 0 n)) × HoldsAt (λ k. p k ≡ false) (range_with_len 0 n) k) → t ≡ all_from n 0 p
+      by true w = sym (all n p (λ k h. subst (λ j. p j ≡ true) (there k h) (w k 0 (omega arith) (omega (arith, length-range_with_len 0 n)))))
+      by false w =
+          let h : w.0 < n = omega (arith, w.1, length-range_with_len 0 n) in
+          one-fails n p w.0 h (subst (λ j. p j ≡ false) (there w.0 h) (w.2 0))

@@ -2,8 +2,9 @@
 ghost use Rattle.std.specs.Prelude.{◌≡◌, ◌+◌, ◌≤◌, length};
 ghost use Rattle.snapshot_format.specs.RecordForm.{pointer_form, capability_form, start_form, layout_form, registers_form, register_form};
 
-use crate::numbers::{fill_bytes, fill_pairs, pair, quad};
+use crate::numbers::{pair, quad};
 use state::record::{Capability, Layout, Register, Registers, Start};
+use std::array;
 use words::pointer::Pointer;
 
 pub fn pointer(bytes: &[u8], i: usize) -> Pointer
@@ -63,24 +64,13 @@ pub fn layout(bytes: &[u8]) -> Layout
     requires { 1079 ≤ length bytes.now }
     ensures { result ≡ layout_form.value bytes.now 0 }
 {
-    let mut lengths = [0u16; 16];
-    fill_pairs(bytes, 0, &mut lengths);
-    let mut gates = [0u16; 16];
-    fill_pairs(bytes, 32, &mut gates);
-    let start = start(bytes);
-    let mut gatedomains = [0u8; 16];
-    fill_bytes(bytes, 68, &mut gatedomains);
-    let mut stacks = [0u8; 8];
-    fill_bytes(bytes, 84, &mut stacks);
-    let mut rights = [0u8; 128];
-    fill_bytes(bytes, 92, &mut rights);
     Layout {
-        lengths,
-        gates,
-        start,
-        gatedomains,
-        stacks,
-        rights,
+        lengths: array::from_fn(|k| pair(bytes, k * 2)),
+        gates: array::from_fn(|k| pair(bytes, 32 + k * 2)),
+        start: start(bytes),
+        gatedomains: array::from_fn(|k| bytes[68 + k]),
+        stacks: array::from_fn(|k| bytes[84 + k]),
+        rights: array::from_fn(|k| bytes[92 + k]),
         segments: bytes[220],
         domains: bytes[221],
     }

@@ -10,13 +10,9 @@ fn all_zero(bytes: &[u8], from: usize, n: usize) -> bool
     ensures { result ≡ zeros bytes.now from n }
 {
     let mut highest = 0u8;
-    let mut k = 0usize;
-    while k < n {
-        let b = bytes[from + k];
-        if highest < b {
-            highest = b;
-        }
-        k += 1;
+    let to = from + n;
+    for &b in &bytes[from..to] {
+        highest = highest.max(b);
     }
     highest == 0
 }
@@ -26,10 +22,7 @@ fn capability_proper(bytes: &[u8], i: usize) -> bool
     ensures { result ≡ capability_form.proper bytes.now i }
 {
     let read = i + 2 + 2 + 1 + 1;
-    if 1 < bytes[read] {
-        return false;
-    }
-    bytes[read + 1] <= 1
+    bytes[read] <= 1 && bytes[read + 1] <= 1
 }
 
 fn capabilities_proper(bytes: &[u8], i: usize) -> bool
@@ -41,14 +34,8 @@ fn capabilities_proper(bytes: &[u8], i: usize) -> bool
         return false;
     }
     let first = i + 1;
-    let mut k = 0usize;
-    while k < used {
-        if !capability_proper(bytes, first + k * 8) {
-            return false;
-        }
-        k += 1;
-    }
-    all_zero(bytes, first + used * 8, (9 - used) * 8)
+    (0..used).all(|k| capability_proper(bytes, first + k * 8))
+        && all_zero(bytes, first + used * 8, (9 - used) * 8)
 }
 
 fn pointer_proper(bytes: &[u8], i: usize) -> bool
@@ -63,14 +50,8 @@ fn frame_proper(bytes: &[u8], i: usize) -> bool
     requires { (i + 82 ≤ 1079) × (1079 ≤ length bytes.now) }
     ensures { result ≡ frame_form.proper bytes.now i }
 {
-    if !capabilities_proper(bytes, i) {
-        return false;
-    }
     let s = i + 73;
-    if !pointer_proper(bytes, s) {
-        return false;
-    }
-    pointer_proper(bytes, s + 4)
+    capabilities_proper(bytes, i) && pointer_proper(bytes, s) && pointer_proper(bytes, s + 4)
 }
 
 pub fn frames_proper(bytes: &[u8]) -> bool
@@ -81,40 +62,20 @@ pub fn frames_proper(bytes: &[u8]) -> bool
     if 8 < used {
         return false;
     }
-    let mut k = 0usize;
-    while k < used {
-        if !frame_proper(bytes, 263 + k * 82) {
-            return false;
-        }
-        k += 1;
-    }
-    all_zero(bytes, 263 + used * 82, (8 - used) * 82)
+    (0..used).all(|k| frame_proper(bytes, 263 + k * 82))
+        && all_zero(bytes, 263 + used * 82, (8 - used) * 82)
 }
 
 pub fn tags_proper(bytes: &[u8]) -> bool
     requires { 1079 ≤ length bytes.now }
     ensures { result ≡ (rows_of 8 pointer_form).proper bytes.now 230 }
 {
-    let mut k = 0usize;
-    while k < 8 {
-        if !pointer_proper(bytes, 230 + k * 4) {
-            return false;
-        }
-        k += 1;
-    }
-    true
+    (0..8).all(|k| pointer_proper(bytes, 230 + k * 4))
 }
 
 pub fn recent_proper(bytes: &[u8]) -> bool
     requires { 1079 ≤ length bytes.now }
     ensures { result ≡ (rows_of 16 register_form).proper bytes.now 919 }
 {
-    let mut k = 0usize;
-    while k < 16 {
-        if !capability_proper(bytes, 919 + k * 10) {
-            return false;
-        }
-        k += 1;
-    }
-    true
+    (0..16).all(|k| capability_proper(bytes, 919 + k * 10))
 }

@@ -1,21 +1,23 @@
 -- `snapshot_reader::proper::capabilities_proper` meets its contract.
-use mathlib.Core.Path.{sym}
+use Prim.Native.Nat.{ℕ, ◌+◌, ◌*◌}
+use mathlib.Core.Bool.{Bool}
+use mathlib.Core.Path.{◌∙◌}
+use borrow.Author.Rules.{rules}
 use borrow.Author.Tests.{le-leb, lt-leb}
-use Rattle.layout_soundness.proofs.Tests.{pass, stop}
-use Rattle.layout_soundness.proofs.All.{none, more, fails, done}
+use Rattle.layout_soundness.proofs.Tests.{pass, stop, answered-true, answered-false}
+use Rattle.snapshot_format.specs.RecordForm.{capability_form}
+use Rattle.snapshot_reader.proofs.Laws.{tested}
 use Rattle.snapshot_reader.proofs.proper.capabilities_proper.Goals as goal
 
 pub returns-then-used-gt9 : goal.returns-then-used-gt9
 returns-then-used-gt9 c = stop _ (lt-leb _ _ c.if-used-gt9.true)
 
-pub loop-k-init : goal.loop-k-init
-loop-k-init c = none _ _
+pub returns-then-all : goal.returns-then-all
+returns-then-all c =
+    let row : ℕ → Bool = λ k. capability_form.proper c.args.bytes.now (c.args.i + 1 + k * 8) in
+    pass (le-leb _ _ c.if-used-gt9.false) (pass (answered-true (tested _ _ row _ (λ k y q h. search rules) _ _ c.all.ensures.ran) c.if-all.true) c.all_zero.ensures)
 
-pub returns-then-not-capability_proper : goal.returns-then-not-capability_proper
-returns-then-not-capability_proper c = pass (le-leb _ _ c.if-used-gt9.false) (stop _ (sym (fails c.loop-k.invariant c.loop-k-test.true c.capability_proper.ensures c.if-not-capability_proper.true)))
-
-pub loop-k-preserved : goal.loop-k-preserved
-loop-k-preserved c = more c.loop-k.invariant c.loop-k-test.true c.capability_proper.ensures c.if-not-capability_proper.false
-
-pub returns : goal.returns
-returns c = pass (le-leb _ _ c.if-used-gt9.false) (pass (sym (done c.loop-k.invariant c.loop-k-test.false)) c.all_zero.ensures)
+pub returns-else-all : goal.returns-else-all
+returns-else-all c =
+    let row : ℕ → Bool = λ k. capability_form.proper c.args.bytes.now (c.args.i + 1 + k * 8) in
+    c.if-all.false ∙ pass (le-leb _ _ c.if-used-gt9.false) (stop _ (answered-false (tested _ _ row _ (λ k y q h. search rules) _ _ c.all.ensures.ran) c.if-all.false))
