@@ -6,9 +6,11 @@ use native.Mathlib.Numerals.{add-one}
 use native.Mathlib.Nat.{add-zero, zero-mul, suc-mul, add-mul, min-eq_left, min-eq_right, le_of_suc-le-suc}
 use mathlib.Core.Path.{◌≡◌, refl, sym, ap, ◌∙◌}
 use mathlib.Core.List.{List, [], ◌∷◌, ◌++◌, append_assoc, append-nil}
-use lib.ListN.{length, get_or, take, replicate, set, length-append, length-replicate}
-use lib.Seq.{sets, length-sets, take_all}
-use Rattle.snapshot_format.specs.Format.{Format, counted}
+use lib.ListN.{length, get_or, take, drop, replicate, set, length-append, length-replicate}
+use lib.Seq.{sets, sets-eq, length-sets, take_all}
+use borrow.Rule.Slice.PartMut.{put_mid}
+use Rattle.std.proofs.lemmas.Slice.{put_mid-paste}
+use Rattle.snapshot_format.specs.Format.{Format, byte_form, counted}
 use Rattle.image_format.specs.Bytes.{joined}
 
 module _ {A : Type 0} where
@@ -24,18 +26,13 @@ module _ {A : Type 0} where
   pub same-room : (l : List A) (i : ℕ) (xs : List A) {m : List A} → m ≡ sets l i xs → length m ≡ length l
   same-room l i xs e = ap length e ∙ length-sets l i xs
 
-  -- one more of the same
-  replicate_next : (n : ℕ) (a : A) → replicate (n + 1) a ≡ replicate n a ++ (a ∷ [])
-  replicate_next n a = ap (λ (k : ℕ). replicate k a) (add-one n) ∙ go n
-    where
-      go : (m : ℕ) → replicate (suc m) a ≡ replicate m a ++ (a ∷ [])
-      go zero = refl
-      go (suc m) = ap (λ (r : List A). a ∷ r) (go m)
-
-  pub zeros-next : (l : List A) (from k : ℕ) (a : A) {m : List A} → m ≡ sets l from (replicate k a) → set m (from + k) a ≡ sets l from (replicate (k + 1) a)
-  zeros-next l from k a e =
-      follows l from (replicate k a) (a ∷ []) (from + k) e (ap (λ (n : ℕ). from + n) (sym (length-replicate k a))) refl ∙
-      ap (sets l from) (sym (replicate_next k a))
+  -- a part written over by xs
+  pub part-put : (l xs : List A) {ys : List A} (i k : ℕ) → ys ≡ xs → length xs ≡ k → i + k ≤ length l → put_mid i k l ys ≡ sets l i xs
+  part-put l xs {ys} i k e n h =
+      put_mid-paste i k l ys xs k e refl (sym n) ∙
+      ap (λ (zs : List A). take i l ++ zs ++ drop (i + k) l) (take_all k xs (omega (arith, n))) ∙
+      ap (λ (j : ℕ). take i l ++ xs ++ drop (i + j) l) (sym n) ∙
+      sym (sets-eq xs l i (omega (arith, n)))
 
   -- a list of n elements has no more than these
   take-most : (n c : ℕ) (xs : List A) → length xs ≡ n → take (min c n) xs ≡ take c xs
@@ -44,6 +41,11 @@ module _ {A : Type 0} where
       go : Dec (c ≤ n) → take (min c n) xs ≡ take c xs
       go (yes h) = ap (λ (k : ℕ). take k xs) (min-eq_left h)
       go (no h) = ap (λ (k : ℕ). take k xs) (min-eq_right {n = n} {m = c} (omega (arith, h))) ∙ take_all n xs (omega arith) ∙ sym (take_all c xs (omega (arith, h)))
+
+pub joined-bytes : (xs : List ℕ) → joined byte_form.bytes xs ≡ xs
+unfolding joined
+joined-bytes [] = refl
+joined-bytes (x ∷ xs) = ap (λ (r : List ℕ). x ∷ r) (joined-bytes xs)
 
 module _ {A : Type 0} (form : Format A) (d : A) where
   -- each of some values has the format's number of bytes

@@ -3,7 +3,7 @@ ghost use Rattle.std.specs.Prelude.{◌≡◌, ◌+◌, ◌≤◌, length};
 ghost use Rattle.std.proofs.lemmas.List.Edits.{sets};
 ghost use Rattle.snapshot_format.specs.RecordForm.{pointer_form, capability_form, start_form, layout_form, registers_form, register_form};
 
-use crate::numbers::{flag, put_bytes, put_pair, put_pairs, put_quad};
+use crate::numbers::{put_bytes, put_pair, put_pairs, put_quad};
 use state::record::{Capability, Layout, Register, Registers, Start};
 use words::pointer::Pointer;
 
@@ -13,7 +13,7 @@ pub fn put_pointer(output: &mut [u8], i: usize, p: Pointer)
 {
     put_pair(output, i, p.word);
     output[i + 2] = p.segment;
-    output[i + 3] = flag(p.tag);
+    output[i + 3] = u8::from(p.tag);
 }
 
 pub fn put_capability(output: &mut [u8], i: usize, c: Capability)
@@ -24,8 +24,8 @@ pub fn put_capability(output: &mut [u8], i: usize, c: Capability)
     put_pair(output, i + 2, c.length);
     output[i + 4] = c.segment;
     output[i + 5] = c.source;
-    output[i + 6] = flag(c.read);
-    output[i + 7] = flag(c.write);
+    output[i + 6] = u8::from(c.read);
+    output[i + 7] = u8::from(c.write);
 }
 
 pub fn put_register(output: &mut [u8], i: usize, r: Register)

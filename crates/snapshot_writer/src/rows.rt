@@ -15,11 +15,8 @@ pub fn put_pointers(output: &mut [u8], pointers: [Pointer; 8])
     requires { 1079 ≤ length output.old }
     ensures { output.new ≡ sets output.old 230 ((rows_of 8 pointer_form).bytes pointers) }
 {
-    let mut k = 0usize;
-    while k < 8 {
-        let p = pointers[k];
-        put_pointer(output, 230 + k * 4, p);
-        k += 1;
+    for k in 0..8 {
+        put_pointer(output, 230 + k * 4, pointers[k]);
     }
 }
 
@@ -30,11 +27,8 @@ fn put_capabilities(output: &mut [u8], i: usize, count: u8, capabilities: [Capab
     output[i] = count;
     let used = rows_used(count, 9);
     let first = i + 1;
-    let mut k = 0usize;
-    while k < used {
-        let c = capabilities[k];
-        put_capability(output, first + k * 8, c);
-        k += 1;
+    for k in 0..used {
+        put_capability(output, first + k * 8, capabilities[k]);
     }
     put_zeros(output, first + used * 8, (9 - used) * 8);
 }
@@ -56,11 +50,8 @@ pub fn put_frames(output: &mut [u8], depth: u8, frames: [Frame; 8])
 {
     output[262] = depth;
     let used = rows_used(depth, 8);
-    let mut k = 0usize;
-    while k < used {
-        let f = frames[k];
-        put_frame(output, 263 + k * 82, f);
-        k += 1;
+    for k in 0..used {
+        put_frame(output, 263 + k * 82, frames[k]);
     }
     put_zeros(output, 263 + used * 82, (8 - used) * 82);
 }
@@ -69,10 +60,7 @@ pub fn put_recent(output: &mut [u8], recent: [Register; 16])
     requires { 1079 ≤ length output.old }
     ensures { output.new ≡ sets output.old 919 ((rows_of 16 register_form).bytes recent) }
 {
-    let mut k = 0usize;
-    while k < 16 {
-        let r = recent[k];
-        put_register(output, 919 + k * 10, r);
-        k += 1;
+    for k in 0..16 {
+        put_register(output, 919 + k * 10, recent[k]);
     }
 }

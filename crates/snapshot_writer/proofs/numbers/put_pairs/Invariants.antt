@@ -1,5 +1,4 @@
 -- `snapshot_writer::numbers::put_pairs` meets its contract.
-use Prim.Native.Nat.{◌-◌}
 use lib.ListN.{length}
 use Rattle.snapshot_format.specs.Format.{pair_form}
 use Rattle.snapshot_writer.proofs.Laws.{RowsPut}
@@ -7,6 +6,3 @@ use Rattle.snapshot_writer.proofs.numbers.put_pairs.Given as goal
 
 abbrev pub invariant-loop-k : goal.invariant-loop-k
 invariant-loop-k l = RowsPut pair_form l.numbers l.initial.output l.from (length l.numbers) l.output l.k
-
-abbrev pub decreases-loop-k : goal.decreases-loop-k
-decreases-loop-k l = length l.numbers - l.k

@@ -1,6 +1,18 @@
 -- `snapshot_writer::numbers::put_quad` meets its contract.
-use native.Mathlib.Numerals.{towards_suc}
+use Prim.Native.Nat.{◌/◌, ◌%◌}
+use native.Mathlib.Omega.{arith}
+use mathlib.Core.List.{[], ◌∷◌}
+use mathlib.Core.Path.{◌≡◌, ◌∙◌}
+use Rattle.snapshot_format.specs.Format.{quad_form}
+use Rattle.snapshot_writer.proofs.Laws.{part-put}
 use Rattle.snapshot_writer.proofs.numbers.put_quad.Goals as goal
 
 pub returns : goal.returns
-returns c = simp (c.put_pair-2.ensures, c.put_pair.ensures, towards_suc)
+returns c =
+    let a = c.args in
+    let n = a.n in
+    let first : n % 256 ≡ n % 65536 % 256 = omega arith in
+    let second : n / 256 % 256 ≡ n % 65536 / 256 = omega arith in
+    let last : n / 16777216 % 256 ≡ n / 65536 / 256 = omega (arith, c.ranges.n) in
+    let bytes : n % 256 ∷ n / 256 % 256 ∷ n / 65536 % 256 ∷ n / 16777216 % 256 ∷ [] ≡ quad_form.bytes n = λ j. first j ∷ second j ∷ n / 65536 % 256 ∷ last j ∷ [] in
+    part-put a.output.now (quad_form.bytes n) a.i _ (c.copy_from_slice.ensures.after ∙ c.to_le_bytes.ensures ∙ bytes) (omega arith) (omega (arith, c.requires))

@@ -17,4 +17,4 @@ pub shape_of-output : goal.shape_of-output
 shape_of-output c = simp length-set (search rules)
 
 pub returns : goal.returns
-returns c = simp (c.flag-2.ensures, c.flag.ensures, c.put_pair-2.ensures, c.put_pair.ensures, towards_suc)
+returns c = simp (c.from-2.ensures, c.from.ensures, c.put_pair-2.ensures, c.put_pair.ensures, towards_suc)

@@ -8,4 +8,4 @@ pub bounds-output-i-2 : goal.bounds-output-i-2
 bounds-output-i-2 c = simp length-set (search rules)
 
 pub returns : goal.returns
-returns c = simp (c.flag.ensures, c.put_pair.ensures, towards_suc)
+returns c = simp (c.from.ensures, c.put_pair.ensures, towards_suc)
