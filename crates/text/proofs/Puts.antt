@@ -3,11 +3,13 @@ use Prim.Native.Nat.{ℕ, ◌+◌, ◌-◌, ◌<◌, ◌≤◌}
 use native.Mathlib.Omega.{arith}
 use mathlib.Core.Bool.{Bool, true, false}
 use mathlib.Core.List.{List, ◌++◌}
-use mathlib.Core.Path.{◌≡◌, refl, sym, ◌∙◌}
+use mathlib.Core.Path.{◌≡◌, refl, sym, ap, ◌∙◌}
 use borrow.Author.Tests.{leb-true, leb-false, le-leb, lt-leb}
 use lib.Dec.{leb}
-use lib.ListN.{length, take, replicate, length-append, length-replicate}
-use lib.Seq.{length-take-le}
+use lib.ListN.{length, take, drop, replicate, length-append, length-replicate}
+use lib.Seq.{length-take-le, take_all}
+use borrow.Rule.Slice.PartMut.{put_mid}
+use Rattle.std.proofs.lemmas.Slice.{put_mid-paste}
 use Rattle.image_format.specs.Output.{written}
 use Rattle.image_format.proofs.Written.{then-bytes, then-length}
 use Rattle.text.specs.Put.{place_after, output_with, printed_in}
@@ -21,6 +23,13 @@ puts-more l m n at k next xs ys p q h = (omega (arith, p.0, q.0, length-append x
 
 pub puts-length : (l m : List ℕ) (at next : ℕ) (xs : List ℕ) → Puts l m at next xs → at + length xs ≤ length l → length m ≡ length l
 puts-length l m at next xs p h = then-length l m xs at p.1 h
+
+-- a part written over
+pub part-written : (l xs : List ℕ) {ys : List ℕ} (at k : ℕ) → ys ≡ xs → k ≡ length xs → put_mid at k l ys ≡ written l at xs
+unfolding written
+part-written l xs {ys} at k e n =
+    put_mid-paste at k l ys xs (length xs) e (sym n) refl ∙
+    ap (λ (zs : List ℕ). take at l ++ zs ++ drop (at + length xs) l) (take_all (length xs) xs (omega arith))
 
 -- the same where they have room, and nothing elsewhere
 abbrev pub PutsWithin : List ℕ → List ℕ → ℕ → ℕ → List ℕ → Type 0

@@ -28,12 +28,9 @@ pub fn put_text(output: &mut [u8], at: usize, text: &[u8]) -> usize
     if !has_room(output.len(), at, text.len()) {
         return at;
     }
-    let mut j = 0usize;
-    while j < text.len() {
-        output[at + j] = text[j];
-        j += 1;
-    }
-    at + text.len()
+    let next = at + text.len();
+    output[at..next].copy_from_slice(text);
+    next
 }
 
 // A number in decimal, in the same way.
