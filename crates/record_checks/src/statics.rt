@@ -1,29 +1,27 @@
 // The static check of a domain, on a whole record.
 ghost use Rattle.std.specs.Prelude.{◌≡◌};
-ghost use Rattle.references.specs.Reference.{index_answer};
+ghost use Rattle.words.specs.Refusal.{answer};
 ghost use Rattle.record_checks.specs.Judged.{judged_static};
 
+use crate::view::view_of;
 use references::flag::Flag;
-use references::reference::{IndexAnswer, locate};
+use references::reference::locate;
 use soundness::sound;
-use state::bases::bases;
 use state::record::Machine;
+use words::refusal::Refusal;
 
-// The static check of a domain; 9 for a record that is not sound.
-pub fn check_static(m: Machine, domain: u8, flag: Flag, segment: u8, word: u16) -> IndexAnswer
-    ensures { index_answer result ≡ judged_static m domain flag segment word }
+// The static check of a domain; NotSound for a record that is not sound.
+pub fn check_static(
+    m: Machine,
+    domain: u8,
+    flag: Flag,
+    segment: u8,
+    word: u16,
+) -> Result<usize, Refusal>
+    ensures { answer result ≡ judged_static m domain flag segment word }
 {
     if !sound(m) {
-        return IndexAnswer::Refused(9);
+        return Err(Refusal::NotSound);
     }
-    let places = bases(&m.layout.lengths);
-    locate(
-        &m.layout.lengths,
-        &m.layout.rights,
-        &places,
-        domain,
-        flag,
-        segment,
-        word,
-    )
+    locate(&view_of(m), domain, flag, segment, word)
 }

@@ -11,4 +11,4 @@ returns-then-not-sound c = simp (answered-false c.sound.ensures c.if-not-sound.t
 pub returns : goal.returns
 unfolding judged_static static_check
 returns c =
-    simp (answered-true c.sound.ensures c.if-not-sound.false, ← c.bases-places.ensures) c.locate.ensures
+    simp (answered-true c.sound.ensures c.if-not-sound.false) (rw c.view_of.ensures at c.locate.ensures)
