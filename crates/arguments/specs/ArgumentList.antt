@@ -1,6 +1,6 @@
 -- The argument list of a call through a gate, and the frame made of it.
 use Rattle.std.specs.Prelude.{ℕ, zero, suc, ◌+◌, ◌*◌, true, false, not, List, [], ◌∷◌, eqb, leb, pos, replicate, set, if◌then◌else◌}
-use Rattle.words.specs.Answer.{Answer, refuse, ok, ◌>>=◌, ◌>>◌, require}
+use Rattle.words.specs.Answer.{Answer, ok, ◌>>=◌, ◌>>◌, require}
 use Rattle.words.specs.Numbers.{bad_argument}
 use Rattle.words.specs.PointerWord.{pointer_of}
 use Rattle.words.specs.ModeWord.{mode_of}
@@ -11,7 +11,6 @@ use Rattle.state.specs.declared.record.Frame.{Frame}
 use Rattle.state.specs.Record.{no_capability}
 use Rattle.references.specs.Live.{passed_of}
 use Rattle.references.specs.Made.{MadeReference, made_read}
-use Rattle.arguments.specs.declared.Framed.{Framed}
 use Rattle.memory.specs.Reader.{Reader}
 use Rattle.addressing.specs.Effective.{displaced_by, placed}
 
@@ -77,8 +76,3 @@ frame_of read a s caller depth live =
 abbrev pub list_made : Pointer → ℕ → ℕ → List MadeReference
 list_made a zero i = []
 list_made a (suc k) i = if eqb i 2 then list_made a k (i + 1) else (made_read (placed (displaced_by a (pos i))) ∷ list_made a k (i + 1))
-
--- the code's answer: a frame made, or a refusal by its number with the live frame as it came in
-abbrev pub framed_by : Frame → Answer Frame → Framed
-framed_by live (refuse n) = record { frame = live; number = n; refused = true }
-framed_by live (ok f) = record { frame = f; number = 0; refused = false }

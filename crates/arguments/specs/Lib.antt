@@ -1,2 +1,1 @@
 pub mod ArgumentList
-pub mod Private

@@ -1,6 +1,8 @@
 -- A crossing as the loop makes it: what it changes, apart from the row that its frame goes into.
-use Rattle.std.specs.Prelude.{ℕ, true, false, List, set}
+use Rattle.std.specs.Prelude.{ℕ, List, set, Result, Ok, Err}
 use Rattle.words.specs.Answer.{Answer, refuse, ok, ◌>>=◌}
+use Rattle.words.specs.Refusal.{number}
+use Rattle.words.specs.declared.refusal.Refusal.{Refusal}
 use Rattle.words.specs.declared.pointer.Pointer.{Pointer}
 use Rattle.state.specs.declared.record.Frame.{Frame}
 use Rattle.state.specs.declared.record.Registers.{Registers}
@@ -16,10 +18,10 @@ pub record Changes : Type 0 where
   pub pointers : List Pointer
   pub registers : Registers
 
--- the code's answer: what changes, or a refusal by its number with frame, pointers and registers as they came in
-unfoldable pub crossed_by : Frame → List Pointer → Registers → Answer Changes → Crossed
-crossed_by frame pointers r (refuse n) = record { frame = frame; pointers = pointers; registers = r; number = n; refused = true }
-crossed_by frame pointers r (ok c) = record { frame = c.frame; pointers = c.pointers; registers = c.registers; number = 0; refused = false }
+-- what the code's result stands for
+abbrev pub crossed_answer : Result Crossed Refusal → Answer Changes
+crossed_answer (Ok c) = ok (record { frame = c.frame; pointers = c.pointers; registers = c.registers })
+crossed_answer (Err r) = refuse (number r)
 
 -- what a call through the gate at p changes, with its frame
 abbrev pub enter_parts : List ℕ → List ℕ → Registers → List Pointer → Pointer → Answer Frame → Answer Changes

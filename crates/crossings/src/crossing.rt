@@ -1,28 +1,29 @@
 // Calls through a gate and returns across domains (cross-domain calls and returns).
-ghost use Rattle.std.specs.Prelude.{◌≡◌, true, get_or};
+ghost use Rattle.std.specs.Prelude.{◌≡◌, get_or};
+ghost use Rattle.words.specs.Refusal.{status};
 ghost use Rattle.state.specs.Record.{no_pointer, of_segment};
 ghost use Rattle.lent_registers.specs.Columns.{registers_of};
 ghost use Rattle.memory.specs.Reader.{read_of};
 ghost use Rattle.arguments.specs.ArgumentList.{frame_of};
 ghost use Rattle.crossings.specs.Crossing.{same_place, at_place, with_tag, leave_check};
-ghost use Rattle.crossings.specs.Parts.{crossed_by, enter_parts, leave_parts};
+ghost use Rattle.crossings.specs.Parts.{crossed_answer, enter_parts, leave_parts};
 
 use arguments::make_frame;
 use pointer_registers::{pointer_at, stack_of, with_base, with_pointer};
 use references::flag::Flag;
 use references::statics::static_check;
+use references::view::View;
 use state::frames::free_frame;
 use state::record::{Frame, Registers};
 use words::pointer::Pointer;
+use words::refusal::Refusal;
 
-// What changes at a crossing: the registers, the pointers, and the frame's row. Or a refusal by its number with all three as they came in.
+// What changes at a crossing: the registers, the pointers, and the frame's row.
 #[derive(Clone, Copy)]
 pub struct Crossed {
     pub frame: Frame,
     pub pointers: [Pointer; 8],
     pub registers: Registers,
-    pub number: u8,
-    pub refused: bool,
 }
 
 // The gate domain of a segment; 0 past the sixteenth.
@@ -40,10 +41,7 @@ fn gate_domain_of(gatedomains: &[u8; 16], segment: u8) -> u8
 fn same_place(p: Pointer, q: Pointer) -> bool
     ensures { result ≡ same_place p q }
 {
-    if p.segment != q.segment {
-        return false;
-    }
-    p.word == q.word
+    p.segment == q.segment && p.word == q.word
 }
 
 // The registers at a place, executing a domain.
@@ -51,10 +49,10 @@ fn at_place(r: Registers, p: Pointer, domain: u8) -> Registers
     ensures { result ≡ at_place r p domain }
 {
     Registers {
-        a: r.a,
         word: p.word,
         segment: p.segment,
         domain,
+        ..r
     }
 }
 
@@ -62,98 +60,57 @@ fn at_place(r: Registers, p: Pointer, domain: u8) -> Registers
 fn with_tag(pointers: [Pointer; 8]) -> [Pointer; 8]
     ensures { result ≡ with_tag pointers }
 {
-    let a = pointer_at(pointers, 0);
     let on = Pointer {
-        word: a.word,
-        segment: a.segment,
         tag: true,
+        ..pointer_at(pointers, 0)
     };
     with_pointer(pointers, 0, on)
 }
 
-// A refusal, with frame, pointers and registers as they came in.
-fn refuse(frame: Frame, pointers: [Pointer; 8], registers: Registers, number: u8) -> Crossed
-    ensures { result ≡ record { frame = frame; pointers = pointers; registers = registers; number = number; refused = true } }
-{
-    Crossed {
-        frame,
-        pointers,
-        registers,
-        number,
-        refused: true,
-    }
-}
-
 // CALL through the gate at p.
-pub fn enter<'a>(
-    lengths: &'a [u16; 16],
-    rights: &'a [u8; 128],
-    bases: &'a [u32; 16],
-    gatedomains: &'a [u8; 16],
-    stacks: &'a [u8; 8],
+pub fn enter(
+    view: &View,
     words: &[u32],
     recent: &[u8; 160],
-    depth: u8,
-    frame: Frame,
     r: Registers,
     pointers: [Pointer; 8],
     p: Pointer,
-) -> Crossed
-    ensures { result ≡ crossed_by frame pointers r (enter_parts gatedomains.now stacks.now r pointers p (frame_of (read_of lengths.now rights.now bases.now words.now r.domain (registers_of recent.now) depth frame) (get_or pointers 0 no_pointer) (get_or pointers 1 no_pointer) r.domain depth frame)) }
+) -> Result<Crossed, Refusal>
+    ensures { crossed_answer result ≡ enter_parts view.now.layout.gatedomains view.now.layout.stacks r pointers p (frame_of (read_of view.now.layout.lengths view.now.layout.rights view.now.bases words.now r.domain (registers_of recent.now) view.now.depth view.now.frame) (get_or pointers 0 no_pointer) (get_or pointers 1 no_pointer) r.domain view.now.depth view.now.frame) }
 {
-    let made = make_frame(
-        lengths,
-        rights,
-        bases,
+    let frame = make_frame(
+        view,
         words,
         r.domain,
         recent,
-        depth,
-        frame,
         pointer_at(pointers, 0),
         pointer_at(pointers, 1),
-    );
-    if made.refused {
-        return refuse(frame, pointers, r, made.number);
-    }
-    let next = made.frame;
-    let domain = gate_domain_of(gatedomains, p.segment);
-    let tagged = with_tag(pointers);
-    let based = with_base(tagged, stack_of(stacks, domain));
-    let registers = at_place(r, p, domain);
-    Crossed {
-        frame: next,
-        pointers: based,
-        registers,
-        number: 0,
-        refused: false,
-    }
+    )?;
+    let domain = gate_domain_of(&view.layout.gatedomains, p.segment);
+    let stack = stack_of(&view.layout.stacks, domain);
+    Ok(Crossed {
+        frame,
+        pointers: with_base(with_tag(pointers), stack),
+        registers: at_place(r, p, domain),
+    })
 }
 
-// A return's checks against the live frame: 0, or the number of the fault.
-fn leave_check<'a>(
-    lengths: &'a [u16; 16],
-    rights: &'a [u8; 128],
-    depth: u8,
-    frame: Frame,
-    s: Pointer,
-    p: Pointer,
-) -> u8
-    ensures { result ≡ leave_check lengths.now rights.now depth frame s p }
+// A return's checks against the live frame.
+fn leave_check(view: &View, s: Pointer, p: Pointer) -> Result<(), Refusal>
+    ensures { status result ≡ leave_check view.now.layout.lengths view.now.layout.rights view.now.depth view.now.frame s p }
 {
-    if depth < 1 {
-        return 32;
+    if view.depth < 1 {
+        return Err(Refusal::BadReturn);
     }
-    if !same_place(p, frame.back) {
-        return 32;
+    if !same_place(p, view.frame.back) {
+        return Err(Refusal::BadReturn);
     }
-    if !same_place(s, frame.s) {
-        return 32;
+    if !same_place(s, view.frame.s) {
+        return Err(Refusal::BadReturn);
     }
     static_check(
-        lengths,
-        rights,
-        frame.domain,
+        &view.layout,
+        view.frame.domain,
         Flag::Execute,
         p.segment,
         p.word,
@@ -161,30 +118,21 @@ fn leave_check<'a>(
 }
 
 // RET to p across domains.
-pub fn leave<'a>(
-    lengths: &'a [u16; 16],
-    rights: &'a [u8; 128],
-    stacks: &'a [u8; 8],
-    depth: u8,
-    frame: Frame,
+pub fn leave(
+    view: &View,
     r: Registers,
     pointers: [Pointer; 8],
     p: Pointer,
-) -> Crossed
-    ensures { result ≡ crossed_by frame pointers r (leave_parts stacks.now r pointers p frame (leave_check lengths.now rights.now depth frame (get_or pointers 1 no_pointer) p)) }
+) -> Result<Crossed, Refusal>
+    ensures { crossed_answer result ≡ leave_parts view.now.layout.stacks r pointers p view.now.frame (leave_check view.now.layout.lengths view.now.layout.rights view.now.depth view.now.frame (get_or pointers 1 no_pointer) p) }
 {
-    let number = leave_check(lengths, rights, depth, frame, pointer_at(pointers, 1), p);
-    if number != 0 {
-        return refuse(frame, pointers, r, number);
-    }
+    leave_check(view, pointer_at(pointers, 1), p)?;
+    let frame = view.frame;
     let restored = with_pointer(pointers, 1, frame.s);
-    let based = with_base(restored, stack_of(stacks, frame.domain));
-    let registers = at_place(r, p, frame.domain);
-    Crossed {
+    let stack = stack_of(&view.layout.stacks, frame.domain);
+    Ok(Crossed {
         frame: free_frame(),
-        pointers: based,
-        registers,
-        number: 0,
-        refused: false,
-    }
+        pointers: with_base(restored, stack),
+        registers: at_place(r, p, frame.domain),
+    })
 }

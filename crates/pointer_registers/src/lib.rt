@@ -13,11 +13,7 @@ pub fn pointer_at(pointers: [Pointer; 8], k: u8) -> Pointer
     ensures { result ≡ get_or pointers k no_pointer }
 {
     if 8 <= k {
-        return Pointer {
-            word: 0,
-            segment: 0,
-            tag: false,
-        };
+        return Pointer::NOWHERE;
     }
     match k {
         0 => pointers[0],

@@ -4,7 +4,7 @@ use Prim.Native.Nat.{ℕ, zero, suc, ◌+◌, ◌-◌, ◌<◌, ◌≤◌}
 use native.Mathlib.Omega.{arith}
 use mathlib.Core.Bool.{Bool, true, false}
 use mathlib.Core.List.{List}
-use mathlib.Core.Path.{◌≡◌, refl, sym, ap, ◌∙◌}
+use mathlib.Core.Path.{◌≡◌, refl, ◌∙◌}
 use lib.Dec.{eqb}
 use lib.ListN.{length, get_or}
 use Rattle.words.specs.Answer.{Answer, refuse, ok, ◌>>=◌}
@@ -14,8 +14,8 @@ use Rattle.state.specs.declared.record.Register.{Register}
 use Rattle.state.specs.declared.record.Registers.{Registers}
 use Rattle.references.specs.declared.flag.Access.TheVariants as access
 use Rattle.references.specs.Reference.{verdict_of}
-use Rattle.instructions.specs.declared.cycle.Event.{Event}
-use Rattle.instructions.specs.declared.cycle.Event.TheVariants as event
+use Rattle.instructions.specs.Stages.{Stage}
+use Rattle.instructions.specs.Stages as stage
 use Rattle.instructions.specs.Plan.{Plan, halt, move, store, enter, leave}
 use Rattle.words.specs.InstructionWord.{instruction_of}
 use Rattle.memory.specs.Reader.{read_of, fetch_of}
@@ -24,28 +24,28 @@ use Rattle.instructions.specs.Cycle.{Progress, ended, moved, entering, leaving, 
 use Rattle.crossings.specs.Crossing.{leave_check}
 use Rattle.arguments.specs.ArgumentList.{frame_of}
 use Rattle.state.specs.Record.{no_pointer}
-use Rattle.local_runs.specs.LocalRun.{Paused, paused, after_cycle, local_from}
+use Rattle.local_runs.specs.LocalRun.{Paused, after_cycle, local_from}
 use Rattle.runs.specs.Private.{Countable, Resumed, ends, goes, resume_after, resume_of}
 use Rattle.runs.proofs.Free.{Free, plan-free}
 use Rattle.local_runs.proofs.LocalRuns.{cycle-length}
 use Rattle.crossings.specs.Parts.{Changes, enter_parts, leave_parts}
 
 -- an event that ends a local run before the limit, after low instructions at least, and finds a frame free where it enters
-abbrev pub Fine : ℕ → ℕ → ℕ → ℕ → Event → Type 0
-Fine depth low limit n event.Moved = Unit {0}
-Fine depth low limit n (event.Pointed i p) = Unit {0}
-Fine depth low limit n event.Halted = n < limit
-Fine depth low limit n (event.Faulted f) = Unit {0}
-Fine depth low limit n (event.Entering p) = (n < limit) × ((low ≤ n) × (depth < 8))
-Fine depth low limit n (event.Leaving p q) = (n < limit) × (low ≤ n)
+abbrev pub Fine : ℕ → ℕ → ℕ → ℕ → Stage → Type 0
+Fine depth low limit n stage.Moved = Unit {0}
+Fine depth low limit n (stage.Pointed i p) = Unit {0}
+Fine depth low limit n stage.Halted = n < limit
+Fine depth low limit n (stage.Faulted f) = Unit {0}
+Fine depth low limit n (stage.Entering p) = (n < limit) × ((low ≤ n) × (depth < 8))
+Fine depth low limit n (stage.Leaving p q) = (n < limit) × (low ≤ n)
 
-pub fine-countable : (depth low limit n : ℕ) → limit ≤ 65535 → (e : Event) → Fine depth low limit n e → Countable n e
-fine-countable depth low limit n h event.Moved f = tt
-fine-countable depth low limit n h (event.Pointed i p) f = tt
-fine-countable depth low limit n h event.Halted f = omega (arith, f)
-fine-countable depth low limit n h (event.Faulted k) f = tt
-fine-countable depth low limit n h (event.Entering p) f = omega (arith, f.0)
-fine-countable depth low limit n h (event.Leaving p q) f = omega (arith, f.0)
+pub fine-countable : (depth low limit n : ℕ) → limit ≤ 65535 → (e : Stage) → Fine depth low limit n e → Countable n e
+fine-countable depth low limit n h stage.Moved f = tt
+fine-countable depth low limit n h (stage.Pointed i p) f = tt
+fine-countable depth low limit n h stage.Halted f = omega (arith, f)
+fine-countable depth low limit n h (stage.Faulted k) f = tt
+fine-countable depth low limit n h (stage.Entering p) f = omega (arith, f.0)
+fine-countable depth low limit n h (stage.Leaving p q) f = omega (arith, f.0)
 
 abbrev FreeCycle : ℕ → Answer Progress → Type 0
 FreeCycle depth (refuse n) = Unit {0}
@@ -79,16 +79,16 @@ module _ (lengths gates rights stacks bases : List ℕ) (depth : ℕ) (frame : F
   from = local_from lengths gates rights stacks bases depth frame
 
   pub local-fine : (low limit k n : ℕ) → low ≤ n → n + k ≡ limit → (r : Registers) (ps : List Pointer) (words : List ℕ) (recent : List Register)
-      → Fine depth low limit (from k n r ps words recent).pause.count (from k n r ps words recent).pause.event
+      → Fine depth low limit (from k n r ps words recent).stop.count (from k n r ps words recent).stop.stage
   unfolding local_from
   local-fine low limit zero n h e r ps words recent = tt
   local-fine low limit (suc k) n h e r ps words recent =
       by (local-fine low limit k (n + 1) (omega arith) (omega arith)) (cycle_of lengths gates rights stacks bases words recent depth frame r ps) (cycle-free words recent r ps)
     where
-      by : ((s : Registers) (qs : List Pointer) (v : List ℕ) (rs : List Register) → Fine depth low limit (from k (n + 1) s qs v rs).pause.count (from k (n + 1) s qs v rs).pause.event)
+      by : ((s : Registers) (qs : List Pointer) (v : List ℕ) (rs : List Register) → Fine depth low limit (from k (n + 1) s qs v rs).stop.count (from k (n + 1) s qs v rs).stop.stage)
           → (t : Answer Progress) → FreeCycle depth t
           → let p = after_cycle (from k (n + 1)) n r ps (cycle_words lengths gates rights stacks bases words recent depth frame r ps) (cycle_recent lengths gates rights stacks bases words recent depth frame r ps) t in
-          Fine depth low limit p.pause.count p.pause.event
+          Fine depth low limit p.stop.count p.stop.stage
       by more (refuse f) free = tt
       by more (ok ended) free = omega arith
       by more (ok (moved s qs)) free = more s qs _ _
@@ -120,14 +120,14 @@ after-room low limit n r ps row depth l h i j (refuse f) = tt
 after-room low limit n r ps row depth l h i j (ok c) = (i, (j, (omega arith, omega arith)))
 
 module _ (lengths rights bases gatedomains stacks words : List ℕ) (recent : List Register) (depth : ℕ) (frame : Frame) (r : Registers) (ps : List Pointer) (low limit n : ℕ) (most : depth ≤ 8) where
-  pub resume-room : (e : Event) → Fine depth low limit n e → Room low limit (resume_of lengths rights bases gatedomains stacks words recent depth frame r ps n e)
-  resume-room event.Moved f = tt
-  resume-room (event.Pointed i p) f = tt
-  resume-room event.Halted f = tt
-  resume-room (event.Faulted k) f = tt
-  resume-room (event.Entering p) f =
+  pub resume-room : (e : Stage) → Fine depth low limit n e → Room low limit (resume_of lengths rights bases gatedomains stacks words recent depth frame r ps n e)
+  resume-room stage.Moved f = tt
+  resume-room (stage.Pointed i p) f = tt
+  resume-room stage.Halted f = tt
+  resume-room (stage.Faulted k) f = tt
+  resume-room (stage.Entering p) f =
       after-room low limit n r ps depth (depth + 1) f.1.0 f.0 f.1.1 (omega (arith, f.1.1))
       (enter_parts gatedomains stacks r ps p (frame_of (read_of lengths rights bases words r.domain recent depth frame) (get_or ps 0 no_pointer) (get_or ps 1 no_pointer) r.domain depth frame))
-  resume-room (event.Leaving p q) f =
+  resume-room (stage.Leaving p q) f =
       after-room low limit n r ps (depth - 1) (depth - 1) f.1 f.0 (omega arith) (omega arith)
       (leave_parts stacks r ps p frame (leave_check lengths rights depth frame (get_or ps 1 no_pointer) p))

@@ -1,13 +1,12 @@
 -- A run as a local run, then an ending or a crossing to go on from.
 use Rattle.std.specs.Prelude.{if◌then◌else◌}
-use Prim.Native.Nat.{ℕ, zero, suc, ◌+◌, ◌-◌, ◌<◌, ◌≤◌}
+use Prim.Native.Nat.{ℕ, zero, suc, ◌+◌, ◌-◌}
 use native.Mathlib.Omega.{arith}
 use mathlib.Core.Bool.{Bool, true, false}
 use mathlib.Core.List.{List}
-use mathlib.Core.Path.{◌≡◌, refl, sym, ap, ◌∙◌}
-use borrow.Author.Tests.{le-leb}
-use lib.Dec.{eqb, leb}
-use lib.ListN.{length, get_or, set}
+use mathlib.Core.Path.{◌≡◌, refl, sym, ◌∙◌}
+use lib.Dec.{eqb}
+use lib.ListN.{get_or, set}
 use Rattle.words.specs.Answer.{Answer, refuse, ok, ◌>>=◌}
 use Rattle.words.specs.declared.pointer.Pointer.{Pointer}
 use Rattle.state.specs.declared.record.Frame.{Frame}
@@ -19,8 +18,8 @@ use Rattle.state.specs.Bases.{bases_of}
 use Rattle.references.specs.declared.flag.Access.TheVariants as access
 use Rattle.references.specs.Reference.{verdict_of, accept, index_of, reference_of}
 use Rattle.references.specs.Check.{check}
-use Rattle.instructions.specs.declared.cycle.Event.{Event}
-use Rattle.instructions.specs.declared.cycle.Event.TheVariants as event
+use Rattle.instructions.specs.Stages.{Stage}
+use Rattle.instructions.specs.Stages as stage
 use Rattle.memory.specs.Reader.{read_of, fetch_of, read_word, fetch, stored, written_of}
 use Rattle.instructions.specs.Plan.{Plan, halt, move, store, enter, leave}
 use Rattle.words.specs.InstructionWord.{instruction_of}
@@ -28,14 +27,14 @@ use Rattle.words.specs.declared.instruction.Instruction.{Instruction}
 use Rattle.references.specs.Made.{renewed_all}
 use Rattle.instructions.specs.Instruction.{plan_of}
 use Rattle.instructions.specs.Made.{made_of, place_of}
-use Rattle.instructions.specs.Cycle.{Progress, ended, moved, entering, leaving, moved_registers, settled, settled_words, planned, cycle_of, cycle_words, cycle_recent, recent_by}
+use Rattle.instructions.specs.Cycle.{Progress, ended, moved, entering, leaving, moved_registers, settled, settled_words, cycle_of, cycle_words, cycle_recent, recent_by}
 use Rattle.memory.proofs.Answers.{accept-then}
 use Rattle.arguments.specs.ArgumentList.{frame_of}
 use Rattle.crossings.specs.Crossing.{entered, left, enter_of, leave_of, leave_check}
-use Rattle.runs.specs.Step.{Act, cross, Done, done, resolve, recent_after, decide, commit, execute}
+use Rattle.runs.specs.Step.{cross, done, resolve, recent_after, decide, commit, execute}
 use Rattle.runs.specs.Step.{proceeded}
-use Rattle.runs.specs.Run.{Ran, ran, Ending, halted, spent, crossed, faulted, after, run_from}
-use Rattle.local_runs.specs.LocalRun.{Paused, paused, after_cycle, local_from}
+use Rattle.runs.specs.Run.{Ran, ran, halted, crossed, faulted, after, run_from}
+use Rattle.local_runs.specs.LocalRun.{Paused, after_cycle, local_from}
 use Rattle.runs.specs.Private.{Resumed, ends, goes, resume_after, resume_of, crossed_recent}
 use Rattle.crossings.specs.Parts.{Changes, enter_parts, leave_parts}
 
@@ -49,17 +48,17 @@ crossed_to m row depth recent c =
     record { layout = m.layout; registers = c.registers; pointers = c.pointers; frames = set m.frames row c.frame; recent = recent; depth = depth }
 
 -- its registers after the crossing at an event
-abbrev pub crossed_at : Machine → Event → Changes → List Register
+abbrev pub crossed_at : Machine → Stage → Changes → List Register
 crossed_at m e c = crossed_recent m.recent m.depth (live_frame m.depth m.frames) m.pointers c.frame e
 
 -- the run that is resumed at an event
-abbrev pub continued : Bool → ℕ → Machine → List ℕ → Event → Resumed → Ran
+abbrev pub continued : Bool → ℕ → Machine → List ℕ → Stage → Resumed → Ran
 continued stretch limit m words e (ends r pointers n x) = ran (with_parts m r pointers m.recent) words n x
 continued stretch limit m words e (goes n row depth c) =
     if stretch then ran (crossed_to m row depth (crossed_at m e c) c) words n crossed else run_from stretch (limit - n) n (crossed_to m row depth (crossed_at m e c) c) words
 
 -- how a machine's run resumes at an event
-abbrev pub resume_at : Machine → List ℕ → ℕ → Event → Resumed
+abbrev pub resume_at : Machine → List ℕ → ℕ → Stage → Resumed
 resume_at m words n e =
     resume_of m.layout.lengths m.layout.rights (bases_of m.layout.lengths) m.layout.gatedomains m.layout.stacks words m.recent m.depth (live_frame m.depth m.frames) m.registers m.pointers n e
 
@@ -71,12 +70,12 @@ local_at m k n words =
 -- a run after a local run
 abbrev pub resume_local : Bool → ℕ → Machine → Paused → Ran
 resume_local stretch limit m p =
-    let n = with_parts m p.pause.registers p.pause.pointers p.recent in
-    continued stretch limit n p.words p.pause.event (resume_at n p.words p.pause.count p.pause.event)
+    let n = with_parts m p.stop.registers p.stop.pointers p.recent in
+    continued stretch limit n p.words p.stop.stage (resume_at n p.words p.stop.count p.stop.stage)
 
 module _ (stretch : Bool) (limit k n : ℕ) (count : limit - (n + 1) ≡ k) (m : Machine) (words : List ℕ) where
   -- a crossing that was answered
-  answered : (row depth : ℕ) (e : Event) (x : Answer Machine) (c : Answer Changes) → x ≡ (c >>= (λ d. ok (crossed_to m row depth (crossed_at m e d) d)))
+  answered : (row depth : ℕ) (e : Stage) (x : Answer Machine) (c : Answer Changes) → x ≡ (c >>= (λ d. ok (crossed_to m row depth (crossed_at m e d) d)))
       → after stretch (run_from stretch k (n + 1)) n m words (x >>= (λ d. ok (cross d)) >>= commit m words) ≡ continued stretch limit m words e (resume_after m.registers m.pointers n row depth c)
   unfolding commit
   answered row depth e x (refuse f) q = rw q refl
@@ -85,27 +84,27 @@ module _ (stretch : Bool) (limit k n : ℕ) (count : limit - (n + 1) ≡ k) (m :
   module _ (u : in_use m.depth ≡ m.depth) where
     entered-goes : (p : Pointer) (made : Answer Frame) →
         (made >>= (λ f. ok (entered m p f)))
-        ≡ (enter_parts m.layout.gatedomains m.layout.stacks m.registers m.pointers p made >>= (λ d. ok (crossed_to m m.depth (m.depth + 1) (crossed_at m (event.Entering p) d) d)))
+        ≡ (enter_parts m.layout.gatedomains m.layout.stacks m.registers m.pointers p made >>= (λ d. ok (crossed_to m m.depth (m.depth + 1) (crossed_at m (stage.Entering p) d) d)))
     unfolding entered
     entered-goes p (refuse f) = refl
     entered-goes p (ok f) = rw u refl
 
     left-goes : (p q : Pointer) (v : ℕ) → let f = live_frame m.depth m.frames in
-        accept v (left m q p f) ≡ (leave_parts m.layout.stacks m.registers m.pointers p f v >>= (λ d. ok (crossed_to m (m.depth - 1) (m.depth - 1) (crossed_at m (event.Leaving p q) d) d)))
+        accept v (left m q p f) ≡ (leave_parts m.layout.stacks m.registers m.pointers p f v >>= (λ d. ok (crossed_to m (m.depth - 1) (m.depth - 1) (crossed_at m (stage.Leaving p q) d) d)))
     unfolding left
-    left-goes p q v = sym (accept-then v _ (left m q p (live_frame m.depth m.frames)) (λ d. ok (crossed_to m (m.depth - 1) (m.depth - 1) (crossed_at m (event.Leaving p q) d) d)) (rw u refl))
+    left-goes p q v = sym (accept-then v _ (left m q p (live_frame m.depth m.frames)) (λ d. ok (crossed_to m (m.depth - 1) (m.depth - 1) (crossed_at m (stage.Leaving p q) d) d)) (rw u refl))
 
     -- a call through a gate, and a return, whose answer is known
     enters : (p : Pointer) (made : Answer Frame) →
         after stretch (run_from stretch k (n + 1)) n m words (made >>= (λ f. ok (entered m p f)) >>= (λ d. ok (cross d)) >>= commit m words)
-        ≡ continued stretch limit m words (event.Entering p) (resume_after m.registers m.pointers n m.depth (m.depth + 1) (enter_parts m.layout.gatedomains m.layout.stacks m.registers m.pointers p made))
-    enters p made = answered m.depth (m.depth + 1) (event.Entering p) _ (enter_parts m.layout.gatedomains m.layout.stacks m.registers m.pointers p made) (entered-goes p made)
+        ≡ continued stretch limit m words (stage.Entering p) (resume_after m.registers m.pointers n m.depth (m.depth + 1) (enter_parts m.layout.gatedomains m.layout.stacks m.registers m.pointers p made))
+    enters p made = answered m.depth (m.depth + 1) (stage.Entering p) _ (enter_parts m.layout.gatedomains m.layout.stacks m.registers m.pointers p made) (entered-goes p made)
 
     leaves : (p q : Pointer) (v : ℕ) → let f = live_frame m.depth m.frames in
         after stretch (run_from stretch k (n + 1)) n m words (accept v (left m q p f) >>= (λ d. ok (cross d)) >>= commit m words)
-        ≡ continued stretch limit m words (event.Leaving p q) (resume_after m.registers m.pointers n (m.depth - 1) (m.depth - 1) (leave_parts m.layout.stacks m.registers m.pointers p f v))
+        ≡ continued stretch limit m words (stage.Leaving p q) (resume_after m.registers m.pointers n (m.depth - 1) (m.depth - 1) (leave_parts m.layout.stacks m.registers m.pointers p f v))
     leaves p q v =
-        answered (m.depth - 1) (m.depth - 1) (event.Leaving p q) _ (leave_parts m.layout.stacks m.registers m.pointers p (live_frame m.depth m.frames) v) (left-goes p q v)
+        answered (m.depth - 1) (m.depth - 1) (stage.Leaving p q) _ (leave_parts m.layout.stacks m.registers m.pointers p (live_frame m.depth m.frames) v) (left-goes p q v)
 
   abbrev depth : ℕ
   depth = m.depth
@@ -121,8 +120,8 @@ module _ (stretch : Bool) (limit k n : ℕ) (count : limit - (n + 1) ≡ k) (m :
   cycled next new (refuse f) = ran m next n (faulted f)
   cycled next new (ok ended) = ran m next (n + 1) halted
   cycled next new (ok (moved r pointers)) = run_from stretch k (n + 1) (with_parts m r pointers new) next
-  cycled next new (ok (entering p)) = continued stretch limit m next (event.Entering p) (resume_at m next n (event.Entering p))
-  cycled next new (ok (leaving p q)) = continued stretch limit m next (event.Leaving p q) (resume_at m next n (event.Leaving p q))
+  cycled next new (ok (entering p)) = continued stretch limit m next (stage.Entering p) (resume_at m next n (stage.Entering p))
+  cycled next new (ok (leaving p q)) = continued stretch limit m next (stage.Leaving p q) (resume_at m next n (stage.Leaving p q))
 
   -- a store, by the number of its check
   stores : (v i a : ℕ) (next : Machine) →

@@ -1,29 +1,26 @@
 -- A plan that enters a gate was made with a frame free.
 use Rattle.std.specs.Prelude.{if◌then◌else◌}
-use Prim.Native.Nat.{ℕ, ◌<◌, ◌^◌}
-use native.Mathlib.Omega.{arith}
+use Prim.Native.Nat.{ℕ, ◌<◌}
 use mathlib.Core.Bool.{Bool, true, false, not}
 use mathlib.Core.List.{List}
-use mathlib.Core.Path.{◌≡◌, refl, sym, ap, ◌∙◌}
+use mathlib.Core.Path.{◌≡◌, refl}
 use borrow.Author.Tests.{ltb-true}
-use lib.Dec.{eqb, ltb, leb}
+use lib.Dec.{eqb, ltb}
 use Rattle.words.specs.Answer.{Answer, refuse, ok, ◌>>=◌, ◌>>◌, require}
 use Rattle.words.specs.InstructionWord.{instruction_of}
 use Rattle.words.specs.declared.pointer.Pointer.{Pointer}
 use Rattle.words.specs.declared.instruction.Instruction.{Instruction}
-use Rattle.state.specs.declared.record.Frame.{Frame}
 use Rattle.state.specs.declared.record.Registers.{Registers}
 use Rattle.references.specs.declared.flag.Flag.TheVariants as flag
 use Rattle.references.specs.Flag.{has}
 use Rattle.references.specs.Static.{exists, rights_of}
 use Rattle.references.specs.Reference.{accept}
-use Rattle.memory.specs.Reader.{Reader, read_of, fetch_of}
+use Rattle.memory.specs.Reader.{Reader}
 use Rattle.addressing.specs.Effective.{effective_of}
 use Rattle.instructions.specs.Plan.{Plan, halt, move, store, enter, leave}
 use Rattle.instructions.specs.Instruction.{jump_of, call_of, return_of, load_of, branch_of, is_load, is_store, taken_of, effect_of, execute_of, plan_of}
 use Rattle.transfers.specs.Transfer.{call_way, jump_check}
 use Rattle.pointer_registers.specs.Stack.{with_base, stack_of}
-use Rattle.instructions.specs.Cycle.{Progress, ended, moved, entering, leaving, settled, cycle_of, planned}
 use Rattle.state.specs.Record.{of_segment}
 
 module _ (depth : ℕ) where

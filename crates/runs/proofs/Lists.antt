@@ -13,7 +13,7 @@ use Rattle.words.specs.declared.pointer.Pointer.{Pointer}
 use Rattle.state.specs.declared.record.Frame.{Frame}
 use Rattle.state.specs.declared.record.Register.{Register}
 use Rattle.state.specs.Record.{no_pointer}
-use Rattle.references.specs.Made.{MadeReference, made_read, renewed, renewed_all}
+use Rattle.references.specs.Made.{made_read, renewed, renewed_all}
 use Rattle.addressing.specs.Effective.{at_word, displaced_by, placed}
 use Rattle.arguments.specs.ArgumentList.{list_made}
 use Rattle.runs.specs.Private.{word_made}

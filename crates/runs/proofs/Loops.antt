@@ -1,25 +1,22 @@
 -- The loop that runs a machine, against the run that the definition gives.
-use Rattle.std.specs.Prelude.{if◌then◌else◌}
-use Prim.Native.Nat.{ℕ, ◌+◌, ◌-◌, ◌<◌, ◌≤◌}
+use Prim.Native.Nat.{ℕ, ◌-◌, ◌<◌, ◌≤◌}
 use native.Mathlib.Omega.{arith}
 use mathlib.Core.Bool.{Bool, true, false}
 use mathlib.Core.List.{List}
-use mathlib.Core.Path.{◌≡◌, refl, sym, subst, ap, ◌∙◌}
+use mathlib.Core.Path.{◌≡◌, refl, ap, ◌∙◌}
 use borrow.Author.Tests.{le-leb}
 use lib.ListN.{length}
 use Rattle.state.specs.declared.record.Frame.{Frame}
 use Rattle.state.specs.declared.record.Register.{Register}
 use Rattle.state.specs.declared.record.Machine.{Machine}
-use Rattle.state.specs.Record.{in_use, live_frame}
+use Rattle.state.specs.Record.{live_frame}
 use Rattle.state.specs.Bases.{bases_of}
-use Rattle.runs.specs.declared.outcome.End.{End}
-use Rattle.runs.specs.declared.outcome.End.TheVariants as end
-use Rattle.local_runs.specs.declared.Pause.{Pause}
-use Rattle.runs.specs.declared.resume.Resumption.{Resumption}
-use Rattle.runs.specs.Run.{Ran, ran, crossed, run_from, end_answer}
-use Rattle.local_runs.specs.LocalRun.{Paused, local_from}
-use Rattle.runs.specs.Private.{Resumed, resume_by, resume_answer, resume_of, crossed_recent, Countable}
-use Rattle.runs.proofs.Cycling.{with_parts, crossed_to, continued, local_at, resume_local, run-resumes}
+use Rattle.state.specs.declared.record.Registers.{Registers}
+use Rattle.words.specs.declared.pointer.Pointer.{Pointer}
+use Rattle.runs.specs.Run.{Ending, ran, crossed, run_from}
+use Rattle.local_runs.specs.LocalRun.{Stop, Paused, local_from}
+use Rattle.runs.specs.Private.{Resumed, ends, goes, resume_of, crossed_recent, Countable}
+use Rattle.runs.proofs.Cycling.{with_parts, crossed_to, continued, run-resumes}
 use Rattle.runs.proofs.Bounds.{Fine, fine-countable, local-fine, local-length, Room, resume-room}
 use Rattle.crossings.specs.Parts.{Changes}
 
@@ -34,8 +31,8 @@ pub starts : (stretch : Bool) (limit : ℕ) (m : Machine) (words : List ℕ) →
 starts stretch limit m words h = record { within = omega arith; most = h; same = refl; rest = ap (λ (k : ℕ). run_from stretch k 0 m words) (let z : limit ≡ limit - 0 = omega arith in z) }
 
 -- its local run has been made: it paused at t, with the words w
-pub record Pauses (limit : ℕ) (m : Machine) (n : ℕ) (words₀ : List ℕ) (t : Pause) (w : List ℕ) : Type 0 where
-  pub fine : Fine m.depth n limit t.count t.event
+pub record Pauses (limit : ℕ) (m : Machine) (n : ℕ) (words₀ : List ℕ) (t : Stop) (w : List ℕ) : Type 0 where
+  pub fine : Fine m.depth n limit t.count t.stage
   pub same : length w ≡ length words₀
 
 module _ (stretch : Bool) (limit : ℕ) (m₀ : Machine) (words₀ : List ℕ) (m : Machine) (words : List ℕ) (n : ℕ) (l : Runs stretch limit m₀ words₀ m words n)
@@ -43,7 +40,7 @@ module _ (stretch : Bool) (limit : ℕ) (m₀ : Machine) (words₀ : List ℕ) (
   abbrev paused : Paused
   paused = local_from m.layout.lengths m.layout.gates m.layout.rights m.layout.stacks places m.depth frame (limit - n) n m.registers m.pointers words m.recent
 
-  module _ (t : Pause) (w : List ℕ) (rs : List Register) (et : t ≡ paused.pause) (ew : w ≡ paused.words) (er : rs ≡ paused.recent) where
+  module _ (t : Stop) (w : List ℕ) (rs : List Register) (et : t ≡ paused.stop) (ew : w ≡ paused.words) (er : rs ≡ paused.recent) where
     pub pauses : Pauses limit m n words₀ t w
     pauses =
         record {
@@ -51,38 +48,31 @@ module _ (stretch : Bool) (limit : ℕ) (m₀ : Machine) (words₀ : List ℕ) (
           same = ap length ew ∙ local-length m.layout.lengths m.layout.gates m.layout.rights m.layout.stacks places m.depth frame (limit - n) n m.registers m.pointers words m.recent ∙ l.same;
         }
 
-    pub countable : limit ≤ 65535 → Countable t.count t.event
-    countable h = fine-countable m.depth n limit t.count h t.event pauses.fine
+    pub countable : limit ≤ 65535 → Countable t.count t.stage
+    countable h = fine-countable m.depth n limit t.count h t.stage pauses.fine
 
-    module _ (c : Resumption) (ec : resume_answer c ≡ resume_of m.layout.lengths m.layout.rights places m.layout.gatedomains m.layout.stacks w rs m.depth frame t.registers t.pointers t.count t.event) where
+    module _ (c : Resumed) (ec : c ≡ resume_of m.layout.lengths m.layout.rights places m.layout.gatedomains m.layout.stacks w rs m.depth frame t.registers t.pointers t.count t.stage) where
       -- the whole run goes on from the crossing's answer
-      pub rested : run_from stretch limit 0 m₀ words₀ ≡ continued stretch limit (with_parts m t.registers t.pointers rs) w t.event (resume_answer c)
+      pub rested : run_from stretch limit 0 m₀ words₀ ≡ continued stretch limit (with_parts m t.registers t.pointers rs) w t.stage c
       rested = l.rest ∙ run-resumes stretch limit (limit - n) n (omega (arith, l.within)) m (simp (le-leb _ _ l.most) refl) words ∙ rw (ec, et, ew, er, live, here) refl
 
-      pub room : Room n limit (resume_answer c)
-      room = rw ec (resume-room _ _ _ _ _ _ _ _ _ _ _ n limit t.count l.most t.event pauses.fine)
+      pub room : Room n limit c
+      room = rw ec (resume-room _ _ _ _ _ _ _ _ _ _ _ n limit t.count l.most t.stage pauses.fine)
 
-      pub ends_so : (c.end ≡ end.Crossed → ⊥) → run_from stretch limit 0 m₀ words₀ ≡ ran (with_parts m c.registers c.pointers rs) w c.count (end_answer c.end)
-      ends_so other = rested ∙ by c.end other
-        where
-          by : (e : End) → (e ≡ end.Crossed → ⊥) → continued stretch limit (with_parts m t.registers t.pointers rs) w t.event (resume_by c e) ≡ ran (with_parts m c.registers c.pointers rs) w c.count (end_answer e)
-          by end.Halted o = refl
-          by (end.Faulted f) o = refl
-          by end.Spent o = refl
-          by end.Crossed o = absurd (o refl)
-          by (end.Refused f) o = refl
+      pub ends_so : (r : Registers) (ps : List Pointer) (k : ℕ) (e : Ending) → c ≡ ends r ps k e → run_from stretch limit 0 m₀ words₀ ≡ ran (with_parts m r ps rs) w k e
+      ends_so r ps k e ee = rested ∙ rw ee refl
 
-      module _ (ee : c.end ≡ end.Crossed) where
-        pub bounds : (c.row < 8) × ((c.depth ≤ 8) × ((n < c.count) × (c.count ≤ limit)))
-        bounds = rw ee at room
+      module _ (k row depth : ℕ) (d : Changes) (eg : c ≡ goes k row depth d) where
+        pub bounds : (row < 8) × ((depth ≤ 8) × ((n < k) × (k ≤ limit)))
+        bounds = rw eg at room
 
         -- with the registers after the crossing
-        module _ (new : List Register) (en : new ≡ crossed_recent rs m.depth frame t.pointers c.frame t.event) where
+        module _ (new : List Register) (en : new ≡ crossed_recent rs m.depth frame t.pointers d.frame t.stage) where
           abbrev next : Machine
-          next = crossed_to m c.row c.depth new (record { frame = c.frame; pointers = c.pointers; registers = c.registers })
+          next = crossed_to m row depth new d
 
-          pub crossed-so : stretch ≡ true → run_from stretch limit 0 m₀ words₀ ≡ ran next w c.count crossed
-          crossed-so s = rested ∙ rw (ee, s, en, live) refl
+          pub crossed-so : stretch ≡ true → run_from stretch limit 0 m₀ words₀ ≡ ran next w k crossed
+          crossed-so s = rested ∙ rw (eg, s, en, live) refl
 
-          pub goes_on : stretch ≡ false → Runs stretch limit m₀ words₀ next w c.count
-          goes_on s = record { within = bounds.1.1.1; most = bounds.1.0; same = pauses.same; rest = rested ∙ rw (ee, s, en, live) refl }
+          pub goes_on : stretch ≡ false → Runs stretch limit m₀ words₀ next w k
+          goes_on s = record { within = bounds.1.1.1; most = bounds.1.0; same = pauses.same; rest = rested ∙ rw (eg, s, en, live) refl }

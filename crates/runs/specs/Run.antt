@@ -1,6 +1,7 @@
 -- Runs: at most so many instructions.
 use Rattle.std.specs.Prelude.{ℕ, zero, suc, ◌+◌, Bool, List, eqb, leb, length, if◌then◌else◌}
 use Rattle.words.specs.Answer.{Answer, refuse, ok}
+use Rattle.words.specs.Refusal.{number}
 use Rattle.words.specs.Numbers.{memory_too_short, not_sound}
 use Rattle.state.specs.declared.record.Machine.{Machine}
 use Rattle.soundness.specs.Sound.{sound_test}
@@ -54,10 +55,10 @@ judged_run run m words = if leb m.depth 8 then run m words else ran m words 0 (r
 -- what the code's answers stand for
 abbrev pub end_answer : End → Ending
 end_answer end.Halted = halted
-end_answer (end.Faulted n) = faulted n
+end_answer (end.Faulted r) = faulted (number r)
 end_answer end.Spent = spent
 end_answer end.Crossed = crossed
-end_answer (end.Refused n) = refused n
+end_answer (end.Refused r) = refused (number r)
 
 abbrev pub ran_answer : Outcome → List ℕ → Ran
 ran_answer o words = ran o.machine words o.count (end_answer o.end)

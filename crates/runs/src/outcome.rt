@@ -1,14 +1,15 @@
 // What a run answers.
 use state::record::Machine;
+use words::refusal::Refusal;
 
 // How a run ends. Only a stretch ends as crossed; a refused call runs nothing.
-#[derive(Clone, Copy)]
+#[derive(Clone, Copy, PartialEq, Eq)]
 pub enum End {
     Halted,
-    Faulted(u8),
+    Faulted(Refusal),
     Spent,
     Crossed,
-    Refused(u8),
+    Refused(Refusal),
 }
 
 #[derive(Clone, Copy)]

@@ -3,9 +3,10 @@ ghost use Rattle.std.specs.Prelude.{◌≡◌, ◌≤◌};
 ghost use Rattle.runs.specs.Run.{run_from, ran_answer};
 
 use crate::outcome::{End, Outcome};
-use crate::resume::{renew_crossing, resume};
+use crate::resume::{Resumption, renew_crossing, resume};
 use lent_registers::columns::{gathered, spread};
 use local_runs::run_local;
+use references::view::View;
 use state::bases::bases;
 use state::frames::live_row;
 use state::record::{Frame, Layout, Machine, Register, Registers};
@@ -44,80 +45,54 @@ pub fn run_on(m: Machine, words: &mut [u32], limit: u16, stretch: bool) -> Outco
     requires { m.depth ≤ 8 }
     ensures { ran_answer result words.new ≡ run_from stretch limit 0 m words.old }
 {
-    let layout = m.layout;
-    let places = bases(&layout.lengths);
+    let mut frames = m.frames;
+    let mut view = View {
+        layout: m.layout,
+        bases: bases(&m.layout.lengths),
+        frame: frames[0],
+        depth: m.depth,
+    };
     let mut registers = m.registers;
     let mut pointers = m.pointers;
-    let mut frames = m.frames;
-    let held = m.recent;
-    let mut recent = spread(held);
-    let mut depth = m.depth;
+    let mut recent = spread(m.recent);
     let mut n = 0u16;
     loop {
-        let live = live_row(depth);
-        let frame = frames[live];
-        let t = run_local(
-            &layout.lengths,
-            &layout.gates,
-            &layout.rights,
-            &layout.stacks,
-            &places,
-            words,
-            &mut recent,
-            depth,
-            frame,
-            n,
-            limit,
-            registers,
-            pointers,
-        );
-        let moved = t.registers;
-        let paused = t.pointers;
-        let event = t.event;
-        let c = resume(
-            &layout.lengths,
-            &layout.rights,
-            &places,
-            &layout.gatedomains,
-            &layout.stacks,
+        view.frame = frames[live_row(view.depth)];
+        let t = run_local(&view, words, &mut recent, n, limit, registers, pointers);
+        match resume(
+            &view,
             words,
             &recent,
-            depth,
-            frame,
-            moved,
-            paused,
+            t.registers,
+            t.pointers,
             t.count,
-            event,
-        );
-        registers = c.registers;
-        pointers = c.pointers;
-        n = c.count;
-        let end = c.end;
-        match end {
-            End::Crossed => {
-                let made = c.frame;
-                renew_crossing(&mut recent, depth, frame, paused, made, event);
-                let row = c.row as usize;
-                frames[row] = made;
-                depth = c.depth;
-                if stretch {
-                    let kept = gathered(&recent);
-                    return outcome(
-                        layout,
-                        registers,
-                        pointers,
-                        frames,
-                        kept,
-                        depth,
-                        n,
-                        End::Crossed,
-                    );
-                }
-            }
-            other => {
+            t.event,
+        ) {
+            Resumption::Ends(r, ps, count, end) => {
                 let kept = gathered(&recent);
-                return outcome(layout, registers, pointers, frames, kept, depth, n, other);
+                return outcome(view.layout, r, ps, frames, kept, view.depth, count, end);
             }
+            Resumption::Goes(count, row, depth, changes) => {
+                renew_crossing(&mut recent, &view, t.pointers, changes.frame, t.event);
+                frames[row as usize] = changes.frame;
+                view.depth = depth;
+                registers = changes.registers;
+                pointers = changes.pointers;
+                n = count;
+            }
+        }
+        if stretch {
+            let kept = gathered(&recent);
+            return outcome(
+                view.layout,
+                registers,
+                pointers,
+                frames,
+                kept,
+                view.depth,
+                n,
+                End::Crossed,
+            );
         }
     }
 }

@@ -1,22 +1,22 @@
 -- `arguments::argument` meets its contract.
+use mathlib.Core.Path.{ap, ◌∙◌}
+use Rattle.words.specs.Refusal.{answer}
+use Rattle.words.proofs.Results.{handed_on}
 use Rattle.arguments.specs.ArgumentList.{list_pointer, argument_of}
 use Rattle.arguments.proofs.argument.Goals as goal
 
-pub returns-in-Refused : goal.returns-in-Refused
+pub returns-in_err-w : goal.returns-in_err-w
 unfolding list_pointer argument_of
-returns-in-Refused c = simp (← c.list_word.ensures, c.in-Refused.is)
+returns-in_err-w c = ap answer (handed_on c.from_residual.result _ c.from_residual.ensures.1) ∙ simp (← c.in_err-w.ensures)
 
-pub returns-in-Refused-unpack : goal.returns-in-Refused-unpack
+pub returns-in_err-p : goal.returns-in_err-p
 unfolding list_pointer argument_of
-returns-in-Refused-unpack c =
-    simp (← c.list_word.ensures, c.in-Word.is, ← c.unpack.ensures, c.in-Refused-unpack.is)
+returns-in_err-p c = ap answer (handed_on c.from_residual-in_err-p.result _ c.from_residual-in_err-p.ensures.1) ∙ simp (← c.in_ok-w.ensures, ← c.in_err-p.ensures)
 
-pub returns-in-Refused-list_word : goal.returns-in-Refused-list_word
+pub returns-in_err-v : goal.returns-in_err-v
 unfolding list_pointer argument_of
-returns-in-Refused-list_word c =
-    simp (← c.list_word.ensures, c.in-Word.is, ← c.unpack.ensures, c.in-Pointer.is, ← c.list_word-in-Pointer.ensures, c.in-Refused-list_word.is)
+returns-in_err-v c = ap answer (handed_on c.from_residual-in_err-v.result _ c.from_residual-in_err-v.ensures.1) ∙ simp (← c.in_ok-w.ensures, ← c.in_ok-p.ensures, ← c.in_err-v.ensures)
 
-pub returns-in-Word-list_word : goal.returns-in-Word-list_word
+pub returns : goal.returns
 unfolding list_pointer argument_of
-returns-in-Word-list_word c =
-    simp (← c.list_word.ensures, c.in-Word.is, ← c.unpack.ensures, c.in-Pointer.is, ← c.list_word-in-Pointer.ensures, c.in-Word-list_word.is) c.capability.ensures
+returns c = simp (← c.in_ok-w.ensures, ← c.in_ok-p.ensures, ← c.in_ok-v.ensures) c.capability.ensures

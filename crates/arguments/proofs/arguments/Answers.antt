@@ -1,27 +1,21 @@
 -- `arguments::arguments` meets its contract.
-use Prim.Native.Nat.{◌-◌}
 use mathlib.Core.Path.{sym, ap, ◌∙◌}
-use borrow.Author.Rules.{rules}
-use Rattle.capabilities.specs.Search.{capability_answer}
-use Rattle.lent_registers.specs.Columns.{registers_of}
-use Rattle.memory.specs.Reader.{read_of}
+use Rattle.words.specs.Refusal.{answer}
+use Rattle.words.proofs.Results.{handed_on}
 use Rattle.arguments.proofs.Rest.{all_rest, refused-rest, taken-rest, no-rest}
 use Rattle.arguments.proofs.arguments.Goals as goal
 
 pub loop-i-init : goal.loop-i-init
-loop-i-init c = (search rules, all_rest _ _ _ _ _ _ _)
-
-pub returns-in-Refused : goal.returns-in-Refused
-returns-in-Refused c =
-    let s = c.args in
-    sym (c.loop-i.invariant.1 ∙ refused-rest (read_of s.lengths.now s.rights.now s.bases.now s.words.now s.domain (registers_of s.recent.now) s.depth s.frame) s.a s.domain s.depth s.frame s.n c.loop-i.i c.loop-i-test.true c.loop-i.rows _ (sym c.argument.ensures ∙ ap capability_answer c.in-Refused.is))
+loop-i-init c = all_rest _ _ _ _ _ _ _
 
 pub loop-i-preserved : goal.loop-i-preserved
 loop-i-preserved c =
-    let s = c.args in
-    (search rules, c.loop-i.invariant.1 ∙ taken-rest (read_of s.lengths.now s.rights.now s.bases.now s.words.now s.domain (registers_of s.recent.now) s.depth s.frame) s.a s.domain s.depth s.frame s.n c.loop-i.i c.loop-i-test.true c.loop-i.rows _ c.with_row-more.result (sym c.argument.ensures ∙ ap capability_answer c.in-Capability.is) c.with_row-more.ensures)
+    c.loop-i.invariant ∙ taken-rest _ _ _ _ _ _ _ c.loop-i-test.true _ _ _ (sym c.in_ok-c.ensures) c.with_row-more.ensures
+
+pub returns-in_err-c : goal.returns-in_err-c
+returns-in_err-c c =
+    ap answer (handed_on c.from_residual.result _ c.from_residual.ensures.1) ∙
+    sym (c.loop-i.invariant ∙ refused-rest _ _ _ _ _ _ _ c.loop-i-test.true _ _ (sym c.in_err-c.ensures))
 
 pub returns : goal.returns
-returns c =
-    let s = c.args in
-    sym (c.loop-i.invariant.1 ∙ no-rest (read_of s.lengths.now s.rights.now s.bases.now s.words.now s.domain (registers_of s.recent.now) s.depth s.frame) s.a s.domain s.depth s.frame s.n c.loop-i.i c.loop-i-test.false c.loop-i.rows)
+returns c = sym (c.loop-i.invariant ∙ no-rest _ _ _ _ _ _ _ c.loop-i-test.false _)

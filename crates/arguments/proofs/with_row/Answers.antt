@@ -1,6 +1,6 @@
 -- `arguments::with_row` meets its contract.
+use Rattle.std.proofs.Common.{◌≡◌, arith}
 use mathlib.Core.Path.{refl}
-use Rattle.words.proofs.Last.{ninth}
 use Rattle.arguments.proofs.with_row.Goals as goal
 
 pub returns-in-0 : goal.returns-in-0
@@ -28,5 +28,6 @@ pub returns-in-7 : goal.returns-in-7
 returns-in-7 c = rw c.in-7.is refl
 
 pub returns-in_default : goal.returns-in_default
-returns-in_default c = let n = c.in_default.in_default-own.rest in
-    rw (ninth _ c.requires n.0.0.0.0.0.0.0.1 n.0.0.0.0.0.0.1 n.0.0.0.0.0.1 n.0.0.0.0.1 n.0.0.0.1 n.0.0.1 n.0.1 n.1) refl
+returns-in_default c =
+    let last : c.args.k ≡ 8 = omega (arith, c.requires) in
+    rw last refl

@@ -10,7 +10,6 @@ use Rattle.arguments.specs.ArgumentList.{list_made}
 use Rattle.crossings.specs.Crossing.{called_recent}
 use Rattle.runs.proofs.renewal.renew_call.Goals as goal
 
--- src/renewal.rt:62:1
 pub returns : goal.returns
 unfolding called_recent
-returns c = let a = c.args in c.enter_list.ensures ∙ ap (λ (x : List Register). listed (a.depth + 1) a.made x) (c.renew_list.ensures ∙ ap (λ (n : ℕ). renewed_all (registers_of a.recent.now) a.depth a.frame (list_made a.a n 0)) c.list_words.ensures)
+returns c = let a = c.args in c.enter_list.ensures ∙ ap (λ (x : List Register). listed (a.view.now.depth + 1) a.made x) (c.renew_list.ensures ∙ ap (λ (n : ℕ). renewed_all (registers_of a.recent.now) a.view.now.depth a.view.now.frame (list_made a.a n 0)) c.list_words.ensures)

@@ -4,7 +4,6 @@ use Rattle.recent.specs.Registers.{cleared}
 use Rattle.crossings.specs.Crossing.{left_recent}
 use Rattle.runs.proofs.renewal.renew_return.Goals as goal
 
--- src/renewal.rt:71:1
 pub returns : goal.returns
 unfolding left_recent
 returns c = c.clear.ensures ∙ ap (cleared _) c.renew.ensures
