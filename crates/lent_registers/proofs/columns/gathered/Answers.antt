@@ -1,10 +1,5 @@
-use native.Mathlib.Omega.{arith}
-use mathlib.Core.Path.{refl}
 use Rattle.lent_registers.proofs.Whole.{gathers-on, gathered-all}
 use Rattle.lent_registers.proofs.columns.gathered.Goals as goal
-
-pub loop-i-init : goal.loop-i-init
-loop-i-init c = record { within = omega arith; room = refl; taken = λ k h. absurd (omega (arith, h)) }
 
 pub loop-i-preserved : goal.loop-i-preserved
 loop-i-preserved c = gathers-on _ _ _ _ c.loop-i-test.true c.loop-i.invariant c.register_at.ensures

@@ -1,13 +1,5 @@
-use native.Mathlib.Omega.{arith}
-use mathlib.Core.Path.{refl}
 use Rattle.lent_registers.proofs.Whole.{ranked-on, ranked-all}
 use Rattle.lent_registers.proofs.renewal.ranks.Goals as goal
-
-pub loop-i-init : goal.loop-i-init
-loop-i-init c = record { within = omega arith; room = refl; there = λ k h. absurd (omega (arith, h)) }
-
-pub rank-requires : goal.rank-requires
-rank-requires c = tt
 
 pub loop-i-preserved : goal.loop-i-preserved
 loop-i-preserved c = ranked-on _ _ _ _ _ c.loop-i-test.true c.loop-i.invariant c.order-place.ensures c.rank.ensures
