@@ -53,8 +53,8 @@ fn stack_sound(segments: u8, domains: u8, i: usize, stack: u8) -> bool
 fn stacks_sound(segments: u8, domains: u8, stacks: &[u8; 8]) -> bool
     ensures { result ≡ all_from 8 0 (λ i. stack_test segments domains i (get_or stacks.now i 0)) }
 {
-    for i in 0..8 {
-        if !stack_sound(segments, domains, i, stacks[i]) {
+    for (i, &stack) in stacks.iter().enumerate() {
+        if !stack_sound(segments, domains, i, stack) {
             return false;
         }
     }

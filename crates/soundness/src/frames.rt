@@ -48,8 +48,8 @@ pub fn frames_sound(domains: u8, depth: u8, frames: [Frame; 8]) -> bool
     if 8 < depth {
         return false;
     }
-    for i in 0..8 {
-        if !place_sound(domains, depth, i, frames[i]) {
+    for (i, &f) in frames.iter().enumerate() {
+        if !place_sound(domains, depth, i, f) {
             return false;
         }
     }

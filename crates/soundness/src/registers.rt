@@ -30,8 +30,8 @@ pub fn pointer_empty(p: Pointer) -> bool
 pub fn pointers_sound(pointers: [Pointer; 8]) -> bool
     ensures { result ≡ pointers_test pointers }
 {
-    for i in 0..8 {
-        if !pointer_sound(pointers[i]) {
+    for &p in &pointers {
+        if !pointer_sound(p) {
             return false;
         }
     }

@@ -40,8 +40,8 @@ fn row_sound(domains: u8, count: u8, j: usize, c: Capability) -> bool
 pub fn rows_sound(domains: u8, count: u8, capabilities: &[Capability; 9]) -> bool
     ensures { result ≡ all_from 9 0 (λ j. (if ltb j count then capability_test domains (get_or capabilities.now j no_capability) else empty_capability (get_or capabilities.now j no_capability))) }
 {
-    for j in 0..9 {
-        if !row_sound(domains, count, j, capabilities[j]) {
+    for (j, &c) in capabilities.iter().enumerate() {
+        if !row_sound(domains, count, j, c) {
             return false;
         }
     }
@@ -52,8 +52,8 @@ pub fn rows_sound(domains: u8, count: u8, capabilities: &[Capability; 9]) -> boo
 pub fn rows_empty(capabilities: &[Capability; 9]) -> bool
     ensures { result ≡ all_from 9 0 (λ j. empty_capability (get_or capabilities.now j no_capability)) }
 {
-    for j in 0..9 {
-        if !capability_empty(capabilities[j]) {
+    for &c in capabilities {
+        if !capability_empty(c) {
             return false;
         }
     }

@@ -5,5 +5,5 @@ use Rattle.soundness.specs.Sound.{empty_capability}
 use Rattle.layout_soundness.proofs.All.{Left}
 use Rattle.soundness.proofs.rows.rows_empty.Given as goal
 
-abbrev pub invariant-loop-j : goal.invariant-loop-j
-invariant-loop-j l = Left 9 (λ k. empty_capability (get_or l.capabilities k no_capability)) l.j
+abbrev pub invariant-loop-c : goal.invariant-loop-c
+invariant-loop-c l = Left 9 (λ k. empty_capability (get_or l.fn.capabilities k no_capability)) l.c-index
