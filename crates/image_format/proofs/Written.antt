@@ -18,7 +18,7 @@ unfolding written
 written_none l at =
     sym (ap (λ (xs : List ℕ). xs ++ drop (at + 0) l) (append-nil (take at l)) ∙ ap (λ (k : ℕ). take at l ++ drop k l) (add-zero at) ∙ take-append-drop at l)
 
--- one byte, and two
+-- one byte
 set_is : (l : List ℕ) (at x : ℕ) → at < length l → set l at x ≡ written l at (x ∷ [])
 unfolding written
 set_is l at x h = sets-eq (x ∷ []) l at (omega arith)
@@ -29,10 +29,6 @@ unfolding written
 written_start l bytes = ap (λ (k : ℕ). bytes ++ drop k l) (zero-add (length bytes))
 
 module _ (l : List ℕ) (at : ℕ) where
-  pub written-two : (x y : ℕ) → at + 2 ≤ length l → set (set l at x) (at + 1) y ≡ written l at (x ∷ y ∷ [])
-  unfolding written
-  written-two x y h = rw add-one (sets-eq (x ∷ y ∷ []) l at h)
-
   module _ (xs : List ℕ) (fits : at + length xs ≤ length l) where
     front : length (take at l ++ xs) ≡ at + length xs
     front = length-append (take at l) xs ∙ ap (λ (k : ℕ). k + length xs) (length-take-le at l (omega arith))
@@ -69,10 +65,6 @@ words_size (w ∷ ws) = let e = words_size ws in omega arith
 pub word_size : (w : ℕ) → length (word_bytes w) ≡ 4
 unfolding word_bytes pair_bytes
 word_size w = refl
-
-pub pair_size : (n : ℕ) → length (pair_bytes n) ≡ 2
-unfolding pair_bytes
-pair_size n = refl
 
 -- a copy of n bytes
 pub written-paste : (l : List ℕ) (at : ℕ) (s : List ℕ) (n : ℕ) → n ≤ length s → paste l at s n ≡ written l at (take n s)

@@ -24,10 +24,6 @@ accepted : (c : In_ok-layout) → Mapped layout_of (image_of c.args.image.now) c
 accepted c =
     mapped-facts layout_of (image_of c.args.image.now) (sym (simp c.in_ok-layout.was at c.judge.ensures))
 
-pub store-requires : goal.store-requires
-store-requires c =
-    (sym (simp c.in_ok-layout.was at c.judge.ensures), c.if-words-lt8192.false)
-
 pub returns-in_err-layout : goal.returns-in_err-layout
 unfolding machine_after memory_after
 returns-in_err-layout c =

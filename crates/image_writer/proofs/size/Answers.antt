@@ -18,12 +18,6 @@ wide s = s.well_formed.0.1.1.1.1.1.1.1.0.1.0.1
 rows : (s : Start) → s.args.layout.domains * (5 + s.args.layout.segments) ≤ 8 * 21
 rows s = let h : 5 + s.args.layout.segments ≤ 21 = omega (arith, (sound s).segments) in mul-le-mul (sound s).domains h
 
-pub overflow_mul-result-3 : goal.overflow_mul-result-3
-overflow_mul-result-3 c = let h = rows (goal.at.overflow_mul-result-3 c).Start in record { fits = omega arith }
-
-pub overflow_add-result-4 : goal.overflow_add-result-4
-overflow_add-result-4 c = let h = rows (goal.at.overflow_add-result-4 c).Start in let k = (sound (goal.at.overflow_add-result-4 c).Start).words in record { fits = omega (arith, c.words_in-count.ensures) }
-
 pub returns : goal.returns
 returns c =
     ap (λ (n : ℕ). 16 + 8 * c.args.layout.segments + 4 * n + c.args.layout.domains * (5 + c.args.layout.segments)) c.words_in-count.ensures ∙

@@ -20,16 +20,10 @@ room c = let a = c.args in omega (arith, c.left.ensures, length-drop a.at a.imag
 pub overflow_add-at : goal.overflow_add-at
 overflow_add-at c = let h = room c in search rules
 
-pub pair-requires : goal.pair-requires
-pair-requires c = let h = room c in search rules
-
 pub returns-then-pair-kind : goal.returns-then-pair-kind
 unfolding header_of
 returns-then-pair-kind c =
     simp (← c.left.ensures, le-leb _ _ c.if-left-lt4.false, drop-drop, ← c.pair.ensures, ne_eqb _ _ c.if-pair-kind.true)
-
-pub pair-requires-2 : goal.pair-requires-2
-pair-requires-2 c = let h = room (goal.at.pair-requires-2 c).Else-left-lt4 in search rules
 
 pub returns : goal.returns
 unfolding header_of

@@ -16,8 +16,5 @@ pub loop-j-preserved : goal.loop-j-preserved
 loop-j-preserved c = let a = c.args in let h = c.loop-j-test.true in
     copied_next c.loop-j.invariant h (words-at a.n (drop a.at a.image.now) c.loop-j.j h ∙ ap word_of (drop-drop (4 * c.loop-j.j) a.at a.image.now) ∙ sym c.word.ensures)
 
-pub shape_of-words : goal.shape_of-words
-shape_of-words c = c.loop-j.invariant.same
-
 pub returns : goal.returns
 returns c = copied-done c.loop-j.invariant c.loop-j-test.false

@@ -13,9 +13,6 @@ loop-i-init c =
     let a = c.args in
     stored-none a.image.now a.words.now a.layout.now c.requires.0 c.requires.1
 
-pub bounds-layout-i : goal.bounds-layout-i
-bounds-layout-i c = omega (arith, c.loop-i.invariant.few)
-
 -- the segment's words are in the image, and there is room for them
 module _ (c : In-loop-i) where
   abbrev n : ℕ
@@ -41,9 +38,6 @@ segment_words-requires c = let d = (goal.at.segment_words-requires c).In-loop-i 
 pub loop-i-preserved : goal.loop-i-preserved
 loop-i-preserved c =
     rw c.segment_words.ensures (stored_next _ _ _ _ _ _ _ _ c.loop-i.invariant c.loop-i-test.true _ refl)
-
-pub shape_of-words : goal.shape_of-words
-shape_of-words c = stored-length _ _ _ _ _ _ _ _ c.loop-i.invariant
 
 pub returns : goal.returns
 returns c = stored-done _ _ _ _ _ _ _ _ c.loop-i.invariant c.loop-i-test.false

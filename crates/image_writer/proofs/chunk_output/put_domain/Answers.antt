@@ -9,8 +9,7 @@ use Rattle.image_format.specs.Bytes.{pair_bytes}
 use Rattle.image_format.specs.Chunk.{chunk_bytes}
 use Rattle.image_format.specs.Domain.{domain_bytes}
 use Rattle.image_format.specs.Output.{written}
-use Rattle.image_format.proofs.Written.{then-byte, then-bytes, then-length, written-part}
-use Rattle.image_format.proofs.Sizes.{domain-size}
+use Rattle.image_format.proofs.Written.{then-byte, then-bytes, written-part}
 use Rattle.image_writer.proofs.chunk_output.put_domain.Goals as goal
 use Rattle.image_writer.proofs.chunk_output.put_domain.Goals.{After-copy_from_slice}
 
@@ -25,11 +24,6 @@ all c =
     let e5 = written-part _ rs c.copy_from_slice.new.self (a.at + 5) _ c.copy_from_slice.ensures.after (omega arith) in
     then-bytes _ _ _ _ e4 rs (a.at + 5) e5 (omega (arith, c.requires.0)) refl ∙
     ap (λ (n : ℕ). written a.output.now a.at (pair_bytes n ++ (pair_bytes 3 ++ (a.stack ∷ rs)))) k
-
-pub shape_of-output : goal.shape_of-output
-shape_of-output c =
-    let a = c.args in
-    then-length a.output.now _ _ a.at (all (goal.at.shape_of-output c).After-copy_from_slice) (omega (arith, c.requires.0, domain-size (record { stack = a.stack; rights = a.rights.now })))
 
 pub returns : goal.returns
 returns c = all (goal.at.returns c).After-copy_from_slice

@@ -47,14 +47,8 @@ bounds-layout-i c = let h = few (goal.at.bounds-layout-i c).In-loop-i in search 
 pub slice_bounds-put_domain-end : goal.slice_bounds-put_domain-end
 slice_bounds-put_domain-end c = omega (arith, few (goal.at.slice_bounds-put_domain-end c).In-loop-i, (sound (first (goal.at.slice_bounds-put_domain-end c).At-loop-i)).segments)
 
-pub overflow_mul-i : goal.overflow_mul-i
-overflow_mul-i c = let h = few (goal.at.overflow_mul-i c).In-loop-i in search rules
-
 pub put_domain-requires : goal.put_domain-requires
 put_domain-requires c = (omega (arith, room (goal.at.put_domain-requires c).In-loop-i, put-length c.loop-i.invariant), omega (arith, few (goal.at.put_domain-requires c).In-loop-i, (sound (first (goal.at.put_domain-requires c).At-loop-i)).segments))
-
-pub overflow_add-at : goal.overflow_add-at
-overflow_add-at c = let h = room (goal.at.overflow_add-at c).In-loop-i in search rules
 
 pub overflow_add-at-in-loop-i : goal.overflow_add-at-in-loop-i
 overflow_add-at-in-loop-i c = let h = room (goal.at.overflow_add-at-in-loop-i c).In-loop-i in search rules
@@ -65,9 +59,6 @@ loop-i-preserved c =
     let n = c.args.layout.segments in
     let e : 16 * l.i + n - 16 * l.i ≡ n = omega arith in
     put_next l.invariant c.loop-i-test.true (rw e at c.put_domain.ensures) (ap (λ (j : ℕ). l.at + j) (sym (size (goal.at.loop-i-preserved c).In-loop-i)))
-
-pub shape_of-output : goal.shape_of-output
-shape_of-output c = put-length c.loop-i.invariant
 
 pub returns : goal.returns
 returns c = let p = put-done c.loop-i.invariant c.loop-i-test.false in

@@ -1,27 +1,13 @@
 -- `image_writer::chunk_output::put_head` meets its contract.
 use native.Mathlib.Omega.{arith}
 use mathlib.Core.Path.{◌≡◌, refl, ◌∙◌}
-use lib.ListN.{length-set}
 use Rattle.image_format.specs.Bytes.{pair_bytes, word_bytes}
 use Rattle.image_format.specs.Chunk.{chunk_bytes}
 use Rattle.image_format.specs.Head.{head_bytes}
 use Rattle.image_format.specs.Output.{written}
-use Rattle.image_format.proofs.Written.{then-byte, then-bytes, then-length}
-use Rattle.image_format.proofs.Sizes.{head-size}
+use Rattle.image_format.proofs.Written.{then-byte, then-bytes}
 use Rattle.image_writer.proofs.chunk_output.put_head.Goals as goal
 use Rattle.image_writer.proofs.chunk_output.put_head.Goals.{After-put_word}
-
-pub bounds-output-5 : goal.bounds-output-5
-bounds-output-5 c = simp length-set (omega arith)
-
-pub bounds-output-6 : goal.bounds-output-6
-bounds-output-6 c = simp length-set (omega arith)
-
-pub bounds-output-7 : goal.bounds-output-7
-bounds-output-7 c = simp length-set (omega arith)
-
-pub put_word-requires : goal.put_word-requires
-put_word-requires c = simp length-set (omega arith)
 
 -- the bytes that are written
 all : (c : After-put_word) → c.put_word.new.output ≡ written c.args.output.now 0 (head_bytes c.args.h)
@@ -34,10 +20,6 @@ all c =
     let e6 = then-byte _ _ _ _ e5 g.start.domain 6 (omega arith) refl in
     let e7 = then-byte _ _ _ _ e6 0 7 (omega arith) refl in
     then-bytes _ _ _ _ e7 (word_bytes c.pack.result) 8 c.put_word.ensures (omega arith) refl ∙ simp c.pack.ensures
-
-pub shape_of-output : goal.shape_of-output
-shape_of-output c =
-    then-length c.args.output.now _ (head_bytes c.args.h) 0 (all (goal.at.shape_of-output c).After-put_word) (omega (arith, c.requires, head-size c.args.h))
 
 pub returns : goal.returns
 returns c = all (goal.at.returns c).After-put_word

@@ -3,21 +3,14 @@ use Prim.Native.Nat.{ℕ, suc, ◌+◌, ◌*◌}
 use native.Mathlib.Omega.{arith}
 use mathlib.Core.Path.{◌≡◌, refl, ap, ◌∙◌}
 use mathlib.Core.List.{◌∷◌, ◌++◌}
-use lib.ListN.{length, length-set}
+use lib.ListN.{length}
 use Rattle.image_format.specs.Bytes.{pair_bytes, words_bytes}
 use Rattle.image_format.specs.Chunk.{chunk_bytes}
 use Rattle.image_format.specs.Segment.{Segment, segment_bytes}
 use Rattle.image_format.specs.Output.{written}
-use Rattle.image_format.proofs.Written.{then-byte, then-bytes, then-length, words_size}
-use Rattle.image_format.proofs.Sizes.{segment-size}
+use Rattle.image_format.proofs.Written.{then-byte, then-bytes, words_size}
 use Rattle.image_writer.proofs.chunk_output.put_segment.Goals as goal
 use Rattle.image_writer.proofs.chunk_output.put_segment.Goals.{After-put_words, Start}
-
-pub bounds-output-at-2 : goal.bounds-output-at-2
-bounds-output-at-2 c = simp length-set (omega arith)
-
-pub put_words-requires : goal.put_words-requires
-put_words-requires c = simp length-set (omega arith)
 
 -- the segment that is written
 abbrev segment_put : Start → Segment
@@ -37,10 +30,6 @@ all c =
     let e7 = then-byte _ _ _ _ e6 0 (a.at + 7) (omega arith) refl in
     then-bytes _ _ _ _ e7 (words_bytes ws) (a.at + 8) c.put_words.ensures (omega arith) refl ∙
     ap (λ (n : ℕ). written a.output.now a.at (pair_bytes n ++ (pair_bytes 2 ++ (pair_bytes a.gates ++ (a.domain ∷ 0 ∷ words_bytes ws))))) k
-
-pub shape_of-output : goal.shape_of-output
-shape_of-output c =
-    then-length c.args.output.now _ (segment_bytes (segment_put (goal.at.shape_of-output c).Start)) c.args.at (all (goal.at.shape_of-output c).After-put_words) (omega (arith, c.requires.0, segment-size (segment_put (goal.at.shape_of-output c).Start)))
 
 pub returns : goal.returns
 returns c = all (goal.at.returns c).After-put_words

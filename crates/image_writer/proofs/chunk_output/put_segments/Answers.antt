@@ -72,9 +72,6 @@ put_segment-requires c =
     let d = (goal.at.put_segment-requires c).In-loop-i in
     (omega (arith, room d, put-length c.loop-i.invariant.1, part d), omega (arith, part d, (sound (goal.at.put_segment-requires c).Start).lengths c.loop-i.i (few d)))
 
-pub overflow_add-at : goal.overflow_add-at
-overflow_add-at c = let h = room (goal.at.overflow_add-at c).In-loop-i in search rules
-
 pub overflow_add-at-in-loop-i : goal.overflow_add-at-in-loop-i
 overflow_add-at-in-loop-i c = let h = room (goal.at.overflow_add-at-in-loop-i c).In-loop-i in search rules
 
@@ -84,9 +81,6 @@ overflow_add-base c = let h = fits (goal.at.overflow_add-base c).In-loop-i in se
 pub loop-i-preserved : goal.loop-i-preserved
 loop-i-preserved c = let l = c.loop-i in
     (ap (λ (b : ℕ). b + n (goal.at.loop-i-preserved c).In-loop-i) l.invariant.0 ∙ sym (base-next _ l.i), put_next l.invariant.1 c.loop-i-test.true (rw (whole (goal.at.loop-i-preserved c).In-loop-i, l.invariant.0) at c.put_segment.ensures) (ap (λ (j : ℕ). l.at + j) (sym (size (goal.at.loop-i-preserved c).In-loop-i))))
-
-pub shape_of-output : goal.shape_of-output
-shape_of-output c = put-length c.loop-i.invariant.1
 
 pub returns : goal.returns
 returns c = let p = put-done c.loop-i.invariant.1 c.loop-i-test.false in

@@ -16,10 +16,6 @@ loop-word-init c =
     let a = c.args in
     (omega arith, written_none a.output.now a.at, refl)
 
-pub put_word-requires : goal.put_word-requires
-put_word-requires c =
-    omega (arith, c.loop-word.invariant.0, c.loop-word.invariant.2, c.loop-word-test.true, c.requires)
-
 pub loop-word-preserved : goal.loop-word-preserved
 loop-word-preserved c =
     let a = c.args in
@@ -29,9 +25,6 @@ loop-word-preserved c =
     let at : c.loop-word.place ≡ a.at + 4 * j = c.loop-word.invariant.0 in
     let e = c.put_word.ensures ∙ (λ k. written (c.loop-word.invariant.1 k) (at k) (word_bytes (get_or ws j 0))) ∙ words_more a.output.now a.at ws j less (omega (arith, c.requires, less)) in
     (omega (arith, at), e, ap length e ∙ written-length a.output.now a.at (words_bytes (take (j + 1) ws)) (omega (arith, words_size (take (j + 1) ws), length-take-le (j + 1) ws (omega (arith, less)), c.requires, less)))
-
-pub shape_of-output : goal.shape_of-output
-shape_of-output c = c.loop-word.invariant.2
 
 pub returns : goal.returns
 returns c =
