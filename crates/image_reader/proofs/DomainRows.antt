@@ -94,12 +94,12 @@ module _ {image : List ℕ} {start count segments : ℕ} {ss rs : List ℕ} {at 
       size : length d.rights ≡ segments
       size = length-take-le segments (drop (at + 5) image) (omega (arith, domain-fits, length-drop (at + 5) image))
 
-      pub domains-next : DomainsSoFar image start count segments (set ss i stack) (paste rs (16 * i) (drop (at + 5) image) segments) (at + (5 + segments)) (i + 1)
+      pub domains-next : DomainsSoFar image start count segments (set ss i stack) (paste rs (16 * i) (drop (at + 5) image) segments) (at + 5 + segments) (i + 1)
       unfolding domains_of
       domains-next =
           record {
             rows = f.rows ++ (d ∷ []);
-            read = so-far-next f.read less d (λ n. domains_of n segments (drop (at + (5 + segments)) image)) (rw (← e, (let z : at + 5 + segments ≡ at + (5 + segments) = omega arith in z)));
+            read = so-far-next f.read less d (λ n. domains_of n segments (drop (at + 5 + segments) image)) (rw (← e));
             stacks = column-next 8 (λ d. d.stack) f.rows d f.stacks f.read.counted (omega arith) refl;
             rights =
                 ap (λ (l : List ℕ). paste l (16 * i) (drop (at + 5) image) segments) f.rights ∙

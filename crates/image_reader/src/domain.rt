@@ -54,8 +54,9 @@ pub fn domain_chunks(
     let mut at = start;
     for i in 0..count as usize {
         stacks[i] = domain_chunk(image, at, segments)?;
-        rights[16 * i..16 * i + n].copy_from_slice(&image[at + 5..at + 5 + n]);
-        at += 5 + n;
+        let from = at + 5;
+        at = from + n;
+        rights[16 * i..16 * i + n].copy_from_slice(&image[from..at]);
     }
     Ok(Domains {
         stacks,

@@ -1,5 +1,5 @@
 // The chunks of an image, written into an output.
-ghost use Rattle.std.specs.Prelude.{◌≡◌, true, ◌+◌, ◌*◌, ◌≤◌, ◌<◌, length, take, drop};
+ghost use Rattle.std.specs.Prelude.{◌≡◌, true, ◌+◌, ◌*◌, ◌≤◌, length};
 ghost use Rattle.layout_soundness.specs.SoundLayout.{ranges_test};
 ghost use Rattle.image_format.specs.Head.{head_bytes};
 ghost use Rattle.image_format.specs.Segment.{segment_bytes, segments_bytes};

@@ -1,6 +1,6 @@
 // Little-endian numbers written into an output.
 ghost use Rattle.std.specs.Prelude.{◌≡◌, ◌++◌, ◌+◌, ◌*◌, ◌≤◌};
-ghost use lib.ListN.{length, take, drop};
+ghost use lib.ListN.{length};
 ghost use Rattle.image_format.specs.Bytes.{pair_bytes, word_bytes, words_bytes};
 ghost use Rattle.image_format.specs.Output.{written};
 

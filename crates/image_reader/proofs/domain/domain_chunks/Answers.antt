@@ -1,16 +1,12 @@
 -- `image_reader::domain::domain_chunks` meets its contract.
-use Prim.Native.Nat.{◌+◌, ◌-◌, ◌*◌, ◌≤◌}
+use Prim.Native.Nat.{◌+◌, ◌-◌, ◌*◌}
 use native.Mathlib.Omega.{arith}
 use borrow.Author.Rules.{rules}
-use lib.ListN.{length, drop}
+use lib.ListN.{drop}
 use Rattle.image_format.proofs.Padded.{padded-none}
 use Rattle.image_reader.proofs.Results.{handed_on}
 use Rattle.image_reader.proofs.DomainRows.{domains-none, domains-done, domains-refused, domain-fits, domains-next, row_put}
 use Rattle.image_reader.proofs.domain.domain_chunks.Goals as goal
-use Rattle.image_reader.proofs.domain.domain_chunks.Goals.{In_ok-stacks}
-
-place : (c : In_ok-stacks) → c.loop-i.at + 5 + c.args.segments ≤ length c.args.image.now
-place c = domain-fits c.loop-i.invariant c.loop-i-test.true c.requires (simp c.in_ok-stacks.was at c.domain_chunk.ensures)
 
 pub loop-i-init : goal.loop-i-init
 loop-i-init c = domains-none (padded-none 8) (padded-none 128)
@@ -19,19 +15,13 @@ pub returns-in_err-stacks : goal.returns-in_err-stacks
 returns-in_err-stacks c = simp (handed_on c.from_residual.result _ c.from_residual.ensures.1) (domains-refused c.loop-i.invariant c.loop-i-test.true (simp c.in_err-stacks.was at c.domain_chunk.ensures))
 
 pub overflow_add-at : goal.overflow_add-at
-overflow_add-at c = let h = place (goal.at.overflow_add-at c).In_ok-stacks in search rules
+overflow_add-at c = let h = domain-fits c.loop-i.invariant c.loop-i-test.true c.requires (simp c.in_ok-stacks.was at c.domain_chunk.ensures) in search rules
 
-pub overflow_add-at-in-loop-i : goal.overflow_add-at-in-loop-i
-overflow_add-at-in-loop-i c = let h = place (goal.at.overflow_add-at-in-loop-i c).In_ok-stacks in search rules
-
-pub overflow_add-at-in-loop-i-2 : goal.overflow_add-at-in-loop-i-2
-overflow_add-at-in-loop-i-2 c = let h = place (goal.at.overflow_add-at-in-loop-i-2 c).In_ok-stacks in search rules
+pub overflow_add-from : goal.overflow_add-from
+overflow_add-from c = let h = domain-fits c.loop-i.invariant c.loop-i-test.true c.requires (simp c.in_ok-stacks.was at c.domain_chunk.ensures) in search rules
 
 pub slice_bounds-copy_from_slice-end : goal.slice_bounds-copy_from_slice-end
-slice_bounds-copy_from_slice-end c = let h = place (goal.at.slice_bounds-copy_from_slice-end c).In_ok-stacks in search rules
-
-pub overflow_add-at-in-loop-i-4 : goal.overflow_add-at-in-loop-i-4
-overflow_add-at-in-loop-i-4 c = let h = place (goal.at.overflow_add-at-in-loop-i-4 c).In_ok-stacks in search rules
+slice_bounds-copy_from_slice-end c = let h = domain-fits c.loop-i.invariant c.loop-i-test.true c.requires (simp c.in_ok-stacks.was at c.domain_chunk.ensures) in search rules
 
 pub loop-i-preserved : goal.loop-i-preserved
 loop-i-preserved c =
