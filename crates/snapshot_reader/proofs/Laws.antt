@@ -1,4 +1,4 @@
--- Loops that test each byte, loops that set the rows in use, and which bytes of a record are looked at.
+-- What calls with each number below n make of an array or of a test, zeros, and which bytes of a record are looked at.
 use Prim.Native.Nat.{ℕ, zero, suc, ◌+◌, ◌<◌, ◌≤◌, ◌-◌, max}
 use native.Mathlib.Omega.{arith}
 use native.Mathlib.Decide.{ℕ_discrete}
