@@ -2,11 +2,12 @@
 
 #![tactic(auto)]
 
-ghost use Rattle.std.specs.Prelude.{◌≡◌, min};
+ghost use Rattle.std.specs.Prelude.{◌≡◌, ◌≤◌, min};
 
 // How many of most rows a byte says are in use.
 pub fn rows_used(used: u8, most: usize) -> usize
-    ensures { result ≡ min used most }
+    ensures value { result ≡ min used most }
+    ensures within { result ≤ most }
 {
     usize::from(used).min(most)
 }

@@ -22,10 +22,7 @@ pub fn put_record(m: Machine, output: &mut [u8])
     }
     put_layout(output, m.layout);
     put_registers(output, m.registers);
-    let pointers = m.pointers;
-    put_pointers(output, pointers);
-    let frames = m.frames;
-    put_frames(output, m.depth, frames);
-    let recent = m.recent;
-    put_recent(output, recent);
+    put_pointers(output, &m.pointers);
+    put_frames(output, m.depth, m.frames);
+    put_recent(output, &m.recent);
 }

@@ -50,17 +50,12 @@ pub fn put_layout(output: &mut [u8], l: Layout)
     requires { 1079 ≤ length output.old }
     ensures { output.new ≡ sets output.old 0 (layout_form.bytes l) }
 {
-    let lengths = l.lengths;
-    put_pairs(output, 0, &lengths);
-    let gates = l.gates;
-    put_pairs(output, 32, &gates);
+    put_pairs(output, 0, &l.lengths);
+    put_pairs(output, 32, &l.gates);
     put_start(output, l.start);
-    let gatedomains = l.gatedomains;
-    put_bytes(output, 68, &gatedomains);
-    let stacks = l.stacks;
-    put_bytes(output, 84, &stacks);
-    let rights = l.rights;
-    put_bytes(output, 92, &rights);
+    put_bytes(output, 68, &l.gatedomains);
+    put_bytes(output, 84, &l.stacks);
+    put_bytes(output, 92, &l.rights);
     output[220] = l.segments;
     output[221] = l.domains;
 }

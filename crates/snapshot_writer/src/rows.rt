@@ -11,18 +11,18 @@ use snapshot_format::rows_used;
 use state::record::{Capability, Frame, Register};
 use words::pointer::Pointer;
 
-pub fn put_pointers(output: &mut [u8], pointers: [Pointer; 8])
+pub fn put_pointers(output: &mut [u8], pointers: &[Pointer; 8])
     requires { 1079 ≤ length output.old }
-    ensures { output.new ≡ sets output.old 230 ((rows_of 8 pointer_form).bytes pointers) }
+    ensures { output.new ≡ sets output.old 230 ((rows_of 8 pointer_form).bytes pointers.now) }
 {
-    for k in 0..8 {
-        put_pointer(output, 230 + k * 4, pointers[k]);
+    for (k, &p) in pointers.iter().enumerate() {
+        put_pointer(output, 230 + k * 4, p);
     }
 }
 
-fn put_capabilities(output: &mut [u8], i: usize, count: u8, capabilities: [Capability; 9])
+fn put_capabilities(output: &mut [u8], i: usize, count: u8, capabilities: &[Capability; 9])
     requires { (i + 82 ≤ 1079) × (1079 ≤ length output.old) }
-    ensures { output.new ≡ sets output.old i ((counted 9 no_capability capability_form).bytes (count, capabilities)) }
+    ensures { output.new ≡ sets output.old i ((counted 9 no_capability capability_form).bytes (count, capabilities.now)) }
 {
     output[i] = count;
     let used = rows_used(count, 9);
@@ -37,8 +37,7 @@ fn put_frame(output: &mut [u8], i: usize, f: Frame)
     requires { (i + 82 ≤ 1079) × (1079 ≤ length output.old) }
     ensures { output.new ≡ sets output.old i (frame_form.bytes f) }
 {
-    let capabilities = f.capabilities;
-    put_capabilities(output, i, f.count, capabilities);
+    put_capabilities(output, i, f.count, &f.capabilities);
     put_pointer(output, i + 73, f.s);
     put_pointer(output, i + 77, f.back);
     output[i + 81] = f.domain;
@@ -56,11 +55,11 @@ pub fn put_frames(output: &mut [u8], depth: u8, frames: [Frame; 8])
     put_zeros(output, 263 + used * 82, (8 - used) * 82);
 }
 
-pub fn put_recent(output: &mut [u8], recent: [Register; 16])
+pub fn put_recent(output: &mut [u8], recent: &[Register; 16])
     requires { 1079 ≤ length output.old }
-    ensures { output.new ≡ sets output.old 919 ((rows_of 16 register_form).bytes recent) }
+    ensures { output.new ≡ sets output.old 919 ((rows_of 16 register_form).bytes recent.now) }
 {
-    for k in 0..16 {
-        put_register(output, 919 + k * 10, recent[k]);
+    for (k, &r) in recent.iter().enumerate() {
+        put_register(output, 919 + k * 10, r);
     }
 }

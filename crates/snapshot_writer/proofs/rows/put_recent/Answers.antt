@@ -8,8 +8,8 @@ use Rattle.snapshot_writer.proofs.Laws.{put-none, put-length, put_next, put_whol
 use Rattle.snapshot_writer.proofs.rows.put_recent.Goals as goal
 use Rattle.snapshot_writer.proofs.rows.put_recent.Goals.{Start}
 
-full : (s : Start) → length s.args.recent ≡ 16
-full s = s.well_formed.1.0.1.0.1
+full : (s : Start) → length s.args.recent.now ≡ 16
+full s = s.told-recent
 
 pub loop-k-init : goal.loop-k-init
 loop-k-init c = put-none (omega (arith, full (goal.at.loop-k-init c).Start))
