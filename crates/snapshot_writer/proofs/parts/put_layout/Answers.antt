@@ -3,7 +3,7 @@ use native.Mathlib.Omega.{arith}
 use Prim.Native.Nat.{ℕ}
 use mathlib.Core.List.{List, [], ◌∷◌, ◌++◌}
 use mathlib.Core.Path.{◌≡◌, refl, sym}
-use lib.ListN.{length, length-set, set}
+use lib.ListN.{length, set}
 use lib.Seq.{sets}
 use Rattle.snapshot_format.specs.Format.{byte_form, pair_form}
 use Rattle.image_format.specs.Bytes.{joined}
@@ -86,9 +86,6 @@ slice_bounds-put_bytes-end-3 c = sym (rights (start5 (goal.at.slice_bounds-put_b
 
 pub put_bytes-requires-3 : goal.put_bytes-requires-3
 put_bytes-requires-3 c = let h = rights (start5 (goal.at.put_bytes-requires-3 c).After-put_bytes-2) in search rules
-
-pub bounds-output-221 : goal.bounds-output-221
-bounds-output-221 c = simp length-set (search rules)
 
 pub shape_of-output : goal.shape_of-output
 shape_of-output c = let s = start (goal.at.shape_of-output c).After-put_bytes-3 in same-room s.args.output.now 0 (layout_form.bytes s.args.l) (all (goal.at.shape_of-output c).After-put_bytes-3)

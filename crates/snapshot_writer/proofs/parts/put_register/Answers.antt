@@ -3,10 +3,9 @@ use Prim.Native.Nat.{ℕ, ◌+◌}
 use native.Mathlib.Omega.{arith}
 use mathlib.Core.List.{[], ◌∷◌}
 use mathlib.Core.Path.{refl, ap}
-use lib.ListN.{length-set, set}
+use lib.ListN.{set}
 use Rattle.snapshot_format.specs.RecordForm.{capability_form}
 use Rattle.snapshot_writer.proofs.Laws.{follows}
-use borrow.Author.Rules.{rules}
 use Rattle.snapshot_writer.proofs.parts.put_register.Goals as goal
 
 pub returns : goal.returns
@@ -16,6 +15,3 @@ returns c =
     let l = set c.put_capability.new.output (a.i + 8) r.frame in
     follows a.output.now a.i (capability_form.bytes r.capability) (r.frame ∷ r.recency ∷ []) (a.i + 8) c.put_capability.ensures refl
     (ap (λ (k : ℕ). set l k r.recency) (omega arith))
-
-pub bounds-output-i-2 : goal.bounds-output-i-2
-bounds-output-i-2 c = simp length-set (search rules)
