@@ -1,9 +1,13 @@
 -- Steps, runs and stretches: the calls on a machine.
-use Rattle.std.specs.Prelude.{ℕ, Bool, true, false, List, eqb, if◌then◌else◌}
+use Rattle.std.specs.Prelude.{ℕ, Bool, true, false, List, eqb, if◌then◌else◌, Result, Ok, Err}
 use Rattle.words.specs.Answer.{Answer, refuse, ok}
 use Rattle.state.specs.declared.record.Machine.{Machine}
 use Rattle.runs.specs.Step.{is_stop, Done, execute}
 use Rattle.runs.specs.Run.{Ran, run_from, judged, called_of}
+use Rattle.words.specs.Refusal.{status}
+use Rattle.words.specs.declared.refusal.Refusal.{Refusal}
+use Rattle.processor.specs.declared.Pace.{Pace}
+use Rattle.processor.specs.declared.Pace.TheVariants as pace
 use Rattle.processor.specs.declared.Stepped.{Stepped}
 
 -- a run of a sound machine, and a stretch, which also stops right after its first completed crossing
@@ -35,6 +39,11 @@ stepped m words (ok d) = record { machine = d.machine; words = d.words; number =
 unfoldable pub step_call : Machine → List ℕ → Step
 step_call m words = stepped m words (if eqb (judged m words) 0 then execute m words else refuse (judged m words))
 
--- what the code's answer stands for
+-- what the code's result stands for
+abbrev pub halts : Result Pace Refusal → Bool
+halts (Ok pace.GoesOn) = false
+halts (Ok pace.Halts) = true
+halts (Err r) = false
+
 abbrev pub step_answer : Stepped → List ℕ → Step
-step_answer s words = record { machine = s.machine; words = words; number = s.number; halted = s.halted }
+step_answer s words = record { machine = s.machine; words = words; number = status s.pace; halted = halts s.pace }

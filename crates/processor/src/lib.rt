@@ -3,44 +3,41 @@
 #![tactic(auto)]
 
 ghost use Rattle.std.specs.Prelude.{◌≡◌};
-ghost use Rattle.processor.specs.Calls.{run_call, stretch_call, step_call, step_answer};
+ghost use Rattle.words.specs.Refusal.{status};
+ghost use Rattle.processor.specs.Calls.{run_call, stretch_call, step_call, halts, step_answer};
 ghost use Rattle.processor.specs.Steps.{ending_number, is_halted};
 ghost use Rattle.runs.specs.Run.{end_answer, ran_answer};
 
 use runs::call;
 use runs::outcome::{End, Outcome};
 use state::record::Machine;
+use words::refusal::Refusal;
 
-// The number of a refusal or a fault; 0 for a completed instruction.
+// What a completed instruction makes of its run.
+#[derive(Clone, Copy, PartialEq, Eq)]
+pub enum Pace {
+    GoesOn,
+    Halts,
+}
+
+// The record after a step, and how it was completed, or the fault or refusal.
 #[derive(Clone, Copy)]
 pub struct Stepped {
     pub machine: Machine,
-    pub number: u8,
-    pub halted: bool,
+    pub pace: Result<Pace, Refusal>,
 }
 
-// The number that a step gives for an ending, and whether it halted.
-fn number_of(end: End) -> u8
-    ensures { result ≡ ending_number (end_answer end) }
+// What a step gives for an ending.
+fn pace_of(end: End) -> Result<Pace, Refusal>
+    ensures number { status result ≡ ending_number (end_answer end) }
+    ensures halted { halts result ≡ is_halted (end_answer end) }
 {
     match end {
-        End::Halted => 0,
-        End::Faulted(n) => n,
-        End::Spent => 0,
-        End::Crossed => 0,
-        End::Refused(n) => n,
-    }
-}
-
-fn halts(end: End) -> bool
-    ensures { result ≡ is_halted (end_answer end) }
-{
-    match end {
-        End::Halted => true,
-        End::Faulted(n) => false,
-        End::Spent => false,
-        End::Crossed => false,
-        End::Refused(n) => false,
+        End::Halted => Ok(Pace::Halts),
+        End::Faulted(refusal) => Err(refusal),
+        End::Spent => Ok(Pace::GoesOn),
+        End::Crossed => Ok(Pace::GoesOn),
+        End::Refused(refusal) => Err(refusal),
     }
 }
 
@@ -64,10 +61,8 @@ pub fn step(m: Machine, words: &mut [u32]) -> Stepped
 {
     let o = call(m, words, 1, false);
     let machine = o.machine;
-    let end = o.end;
     Stepped {
         machine,
-        number: number_of(end),
-        halted: halts(end),
+        pace: pace_of(o.end),
     }
 }

@@ -8,4 +8,4 @@ use Rattle.processor.proofs.step.Goals as goal
 pub returns : goal.returns
 unfolding run_call
 returns c =
-    simp (c.halts.ensures, c.number_of.ensures) (ap as_step c.call-o.ensures ∙ call-one _ _)
+    simp (c.pace_of.ensures.number, c.pace_of.ensures.halted) (ap as_step c.call-o.ensures ∙ call-one _ _)
