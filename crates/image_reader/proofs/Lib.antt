@@ -1,4 +1,3 @@
-pub mod Results
 pub mod Runs
 pub mod SegmentRows
 pub mod DomainRows

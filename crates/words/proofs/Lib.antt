@@ -2,5 +2,4 @@ pub mod Fields
 pub mod Integers
 pub mod Masks
 pub mod RoundTrips
-pub mod Last
 pub mod Results

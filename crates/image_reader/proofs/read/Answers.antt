@@ -5,7 +5,7 @@ use Rattle.words.specs.Answer.{number_of}
 use Rattle.fresh.specs.Fresh.{fresh_of}
 use Rattle.image_format.specs.Image.{image_of, layout_of}
 use Rattle.image_reader.specs.Reader.{read_image, machine_after, memory_after}
-use Rattle.image_reader.proofs.Results.{handed_on}
+use Rattle.words.proofs.Results.{handed_on}
 use Rattle.image_reader.proofs.Stores.{Mapped, mapped-facts, mapped-refused}
 use Rattle.image_reader.proofs.read.Goals as goal
 use Rattle.image_reader.proofs.read.Goals.{Else-words-lt8192, In_ok-layout}

@@ -2,7 +2,7 @@
 use mathlib.Core.Path.{refl}
 use borrow.Author.Tests.{lt-leb, le-leb, ne_eqb, eq-eqb}
 use Rattle.image_format.specs.Chunk.{chunk_of}
-use Rattle.image_reader.proofs.Results.{handed_on}
+use Rattle.words.proofs.Results.{handed_on}
 use Rattle.image_reader.proofs.chunk.exact.Goals as goal
 
 pub returns-then-found-length : goal.returns-then-found-length

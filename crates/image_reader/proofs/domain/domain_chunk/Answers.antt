@@ -11,7 +11,7 @@ use Rattle.image_format.specs.Domain.{domain_of}
 use Rattle.image_format.proofs.Chunks.{exact-room}
 use Rattle.image_format.proofs.Bodies.{domain-body}
 use borrow.Author.Rules.{rules}
-use Rattle.image_reader.proofs.Results.{handed_on}
+use Rattle.words.proofs.Results.{handed_on}
 use Rattle.image_reader.proofs.domain.domain_chunk.Goals as goal
 use Rattle.image_reader.proofs.domain.domain_chunk.Goals.{In_ok-exact}
 

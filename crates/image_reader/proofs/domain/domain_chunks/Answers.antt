@@ -4,7 +4,7 @@ use native.Mathlib.Omega.{arith}
 use borrow.Author.Rules.{rules}
 use lib.ListN.{drop}
 use Rattle.image_format.proofs.Padded.{padded-none}
-use Rattle.image_reader.proofs.Results.{handed_on}
+use Rattle.words.proofs.Results.{handed_on}
 use Rattle.image_reader.proofs.DomainRows.{domains-none, domains-done, domains-refused, domain-fits, domains-next, row_put}
 use Rattle.image_reader.proofs.domain.domain_chunks.Goals as goal
 

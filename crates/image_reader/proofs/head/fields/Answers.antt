@@ -1,7 +1,7 @@
 -- `image_reader::head::fields` meets its contract.
 use borrow.Author.Tests.{lt-leb, le-leb, lt-ltb, le-ltb, ne_eqb, eq-eqb}
 use Rattle.image_format.specs.Head.{head_fields}
-use Rattle.image_reader.proofs.Results.{handed_on}
+use Rattle.words.proofs.Results.{handed_on}
 use Rattle.image_reader.proofs.head.fields.Goals as goal
 
 pub returns-then-segments-lt1 : goal.returns-then-segments-lt1

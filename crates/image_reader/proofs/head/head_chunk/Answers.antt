@@ -8,7 +8,7 @@ use Rattle.image_format.specs.Chunk.{chunk_at, chunk_of, exactly}
 use Rattle.image_format.specs.Head.{head_of}
 use Rattle.image_format.proofs.Chunks.{exact-room}
 use Rattle.image_format.proofs.Bodies.{head-body}
-use Rattle.image_reader.proofs.Results.{handed_on}
+use Rattle.words.proofs.Results.{handed_on}
 use Rattle.image_reader.proofs.head.head_chunk.Goals as goal
 use Rattle.image_reader.proofs.head.head_chunk.Goals.{In_ok-exact}
 

@@ -1,6 +1,6 @@
 -- `image_reader::judge::after_segments` meets its contract.
 use Rattle.image_reader.specs.Private.{after_segments}
-use Rattle.image_reader.proofs.Results.{handed_on}
+use Rattle.words.proofs.Results.{handed_on}
 use Rattle.image_reader.proofs.judge.after_segments.Goals as goal
 
 pub returns-in_err-d : goal.returns-in_err-d

@@ -8,7 +8,7 @@ use Rattle.words.specs.Answer.{ok}
 use Rattle.image_format.specs.Chunk.{chunk_at, chunk_of, exactly}
 use Rattle.image_format.proofs.Chunks.{exact-room}
 use Rattle.image_reader.specs.Private.{end_of}
-use Rattle.image_reader.proofs.Results.{handed_on}
+use Rattle.words.proofs.Results.{handed_on}
 use Rattle.image_reader.proofs.judge.end.Goals as goal
 use Rattle.image_reader.proofs.judge.end.Goals.{After-left-rest, In_ok-exact}
 

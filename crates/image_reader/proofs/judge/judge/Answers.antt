@@ -2,7 +2,7 @@
 use Prim.Native.Nat.{◌≤◌}
 use mathlib.Core.Path.{sym, ◌∙◌}
 use Rattle.image_format.proofs.Images.{head-ranges}
-use Rattle.image_reader.proofs.Results.{handed_on}
+use Rattle.words.proofs.Results.{handed_on}
 use Rattle.image_reader.proofs.Judged.{judged-is}
 use Rattle.image_reader.proofs.judge.judge.Goals as goal
 use Rattle.image_reader.proofs.judge.judge.Goals.{In_ok-h}

@@ -6,7 +6,7 @@ use lib.ListN.{length-drop}
 use Rattle.image_format.specs.Chunk.{chunk_of}
 use Rattle.image_format.specs.Segment.{segment_of}
 use Rattle.image_format.proofs.Segments.{length_some}
-use Rattle.image_reader.proofs.Results.{handed_on}
+use Rattle.words.proofs.Results.{handed_on}
 use Rattle.image_reader.proofs.segment.segment_chunk.Goals as goal
 
 pub returns-then-left-n : goal.returns-then-left-n

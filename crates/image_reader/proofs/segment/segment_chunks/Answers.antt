@@ -1,6 +1,6 @@
 -- `image_reader::segment::segment_chunks` meets its contract.
 use Rattle.image_format.proofs.Padded.{padded-none}
-use Rattle.image_reader.proofs.Results.{handed_on}
+use Rattle.words.proofs.Results.{handed_on}
 use Rattle.image_reader.proofs.SegmentRows.{segments-none, segments-done, segments-refused, row_fits, segments-next}
 use Rattle.image_reader.proofs.segment.segment_chunks.Goals as goal
 
