@@ -3,7 +3,7 @@
 #![tactic(auto)]
 
 ghost use Rattle.std.specs.Prelude.{◌≡◌};
-ghost use Rattle.words.specs.Refusal.{answer};
+ghost use Rattle.words.specs.Refusal.{answer_of};
 ghost use Rattle.lent_registers.specs.Columns.{registers_of};
 ghost use Rattle.memory.specs.Reader.{read_of};
 ghost use Rattle.addressing.specs.Effective.{through_of, effective_of};
@@ -24,7 +24,7 @@ fn through(
     recent: &[u8; 160],
     p: Pointer,
 ) -> Result<Pointer, Refusal>
-    ensures { answer result ≡ through_of (read_of view.now.layout.lengths view.now.layout.rights view.now.bases words.now domain (registers_of recent.now) view.now.depth view.now.frame) p }
+    ensures { answer_of result ≡ through_of (read_of view.now.layout.lengths view.now.layout.rights view.now.bases words.now domain (registers_of recent.now) view.now.depth view.now.frame) p }
 {
     let w = read(view, words, domain, recent, p)?;
     let q = unpack(w)?;
@@ -44,7 +44,7 @@ pub fn effective(
     pointers: [Pointer; 8],
     i: Instruction,
 ) -> Result<Pointer, Refusal>
-    ensures { answer result ≡ effective_of (read_of view.now.layout.lengths view.now.layout.rights view.now.bases words.now domain (registers_of recent.now) view.now.depth view.now.frame) pointers i }
+    ensures { answer_of result ≡ effective_of (read_of view.now.layout.lengths view.now.layout.rights view.now.bases words.now domain (registers_of recent.now) view.now.depth view.now.frame) pointers i }
 {
     let base = pointer_at(pointers, i.base);
     let p = Pointer {

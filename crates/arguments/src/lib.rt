@@ -3,7 +3,7 @@
 #![tactic(auto)]
 
 ghost use Rattle.std.specs.Prelude.{◌≡◌, ◌≤◌, replicate, set};
-ghost use Rattle.words.specs.Refusal.{answer};
+ghost use Rattle.words.specs.Refusal.{answer_of};
 ghost use Rattle.state.specs.Record.{no_capability};
 ghost use Rattle.lent_registers.specs.Columns.{registers_of};
 ghost use Rattle.memory.specs.Reader.{read_of};
@@ -27,7 +27,7 @@ fn list_word(
     a: Pointer,
     k: u16,
 ) -> Result<u32, Refusal>
-    ensures { answer result ≡ list_word (read_of view.now.layout.lengths view.now.layout.rights view.now.bases words.now domain (registers_of recent.now) view.now.depth view.now.frame) a k }
+    ensures { answer_of result ≡ list_word (read_of view.now.layout.lengths view.now.layout.rights view.now.bases words.now domain (registers_of recent.now) view.now.depth view.now.frame) a k }
 {
     let p = Pointer {
         word: climb(a.word, k)?,
@@ -39,7 +39,7 @@ fn list_word(
 
 // An untagged argument's source is the caller; a tagged one's is passed on. The list itself counts as an argument, at a.
 fn source(view: &View, caller: u8, p: Pointer, m: Mode) -> Result<u8, Refusal>
-    ensures { answer result ≡ source_of caller view.now.depth view.now.frame p m }
+    ensures { answer_of result ≡ source_of caller view.now.depth view.now.frame p m }
 {
     if p.tag {
         pass_on(view, p.segment, p.word, m.length, m.read, m.write)
@@ -64,7 +64,7 @@ fn capability_on(p: Pointer, m: Mode, source: u8) -> Capability
 
 // An argument's capability, of its pointer and its mode word.
 fn capability(view: &View, caller: u8, p: Pointer, mode: u32) -> Result<Capability, Refusal>
-    ensures { answer result ≡ capability_of caller view.now.depth view.now.frame p mode }
+    ensures { answer_of result ≡ capability_of caller view.now.depth view.now.frame p mode }
 {
     let m = words::mode::unpack(mode, p.word)?;
     let source = source(view, caller, p, m)?;
@@ -80,7 +80,7 @@ fn argument(
     a: Pointer,
     i: u8,
 ) -> Result<Capability, Refusal>
-    ensures { answer result ≡ argument_of (read_of view.now.layout.lengths view.now.layout.rights view.now.bases words.now domain (registers_of recent.now) view.now.depth view.now.frame) a domain view.now.depth view.now.frame i }
+    ensures { answer_of result ≡ argument_of (read_of view.now.layout.lengths view.now.layout.rights view.now.bases words.now domain (registers_of recent.now) view.now.depth view.now.frame) a domain view.now.depth view.now.frame i }
 {
     let at = 3 + 2 * (i as u16);
     let w = list_word(view, words, domain, recent, a, at)?;
@@ -119,7 +119,7 @@ fn arguments(
     n: u8,
 ) -> Result<[Capability; 9], Refusal>
     requires { n ≤ 8 }
-    ensures { answer result ≡ arguments_from (read_of view.now.layout.lengths view.now.layout.rights view.now.bases words.now domain (registers_of recent.now) view.now.depth view.now.frame) a domain view.now.depth view.now.frame n 0 (replicate 9 no_capability) }
+    ensures { answer_of result ≡ arguments_from (read_of view.now.layout.lengths view.now.layout.rights view.now.bases words.now domain (registers_of recent.now) view.now.depth view.now.frame) a domain view.now.depth view.now.frame n 0 (replicate 9 no_capability) }
 {
     let mut rows = [Capability::NONE; 9];
     for i in 0..n {
@@ -175,7 +175,7 @@ fn frame_after(
     n: u8,
 ) -> Result<Frame, Refusal>
     requires { n ≤ 8 }
-    ensures { answer result ≡ frame_after (read_of view.now.layout.lengths view.now.layout.rights view.now.bases words.now domain (registers_of recent.now) view.now.depth view.now.frame) a s domain view.now.depth view.now.frame list n }
+    ensures { answer_of result ≡ frame_after (read_of view.now.layout.lengths view.now.layout.rights view.now.bases words.now domain (registers_of recent.now) view.now.depth view.now.frame) a s domain view.now.depth view.now.frame list n }
 {
     let w = list_word(view, words, domain, recent, a, 1)?;
     let back = words::pointer::unpack(w)?;
@@ -196,7 +196,7 @@ pub fn make_frame(
     a: Pointer,
     s: Pointer,
 ) -> Result<Frame, Refusal>
-    ensures { answer result ≡ frame_of (read_of view.now.layout.lengths view.now.layout.rights view.now.bases words.now domain (registers_of recent.now) view.now.depth view.now.frame) a s domain view.now.depth view.now.frame }
+    ensures { answer_of result ≡ frame_of (read_of view.now.layout.lengths view.now.layout.rights view.now.bases words.now domain (registers_of recent.now) view.now.depth view.now.frame) a s domain view.now.depth view.now.frame }
 {
     let w = list_word(view, words, domain, recent, a, 0)?;
     if 8 < w {

@@ -2,7 +2,7 @@
 use Rattle.std.specs.Prelude.{ℕ, ◌+◌, Bool, List, Result, eqb, take, drop, length}
 use Rattle.words.specs.Answer.{Answer, ok, ◌>>=◌, ◌>>◌, require}
 use Rattle.words.specs.Numbers.{bytes_left, dead_gate}
-use Rattle.words.specs.Refusal.{answer}
+use Rattle.words.specs.Refusal.{answer_of}
 use Rattle.words.specs.declared.refusal.Refusal.{Refusal}
 use Rattle.layout_soundness.specs.SoundLayout.{gates_test}
 use Rattle.image_format.specs.declared.Head.{Head}
@@ -18,16 +18,16 @@ use Rattle.image_reader.specs.declared.domain.Domains.{Domains}
 
 -- the chunk of length n, where the code passed it
 abbrev pub chunk_answer : ℕ → List ℕ → Result (Unit {0}) Refusal → Answer (Read (List ℕ))
-chunk_answer n bytes r = answer r >> ok (chunk_at n bytes)
+chunk_answer n bytes r = answer_of r >> ok (chunk_at n bytes)
 
 -- the head of a chunk of 12 bytes
 abbrev pub head_answer : List ℕ → Result Head Refusal → Answer (Read Head)
-head_answer bytes r = answer r >>= (λ h. ok (record { value = h; rest = drop 12 bytes }))
+head_answer bytes r = answer_of r >>= (λ h. ok (record { value = h; rest = drop 12 bytes }))
 
 -- a row of a chunk that begins at a place of the image
 abbrev pub segment_answer : List ℕ → ℕ → Result SegmentRow Refusal → Answer (Read Segment)
 segment_answer image at r =
-    answer r >>= (λ s. ok (record {
+    answer_of r >>= (λ s. ok (record {
       value = record { gates = s.gates; domain = s.domain; words = words_of s.length (drop (at + 8) image) };
       rest = drop s.next image;
     }))
@@ -35,7 +35,7 @@ segment_answer image at r =
 -- a domain of a chunk that begins at a place of the image
 abbrev pub domain_answer : List ℕ → ℕ → ℕ → Result ℕ Refusal → Answer (Read Domain)
 domain_answer image at segments r =
-    answer r >>= (λ s. ok (record { value = record { stack = s; rights = take segments (drop (at + 5) image) }; rest = drop (at + 5 + segments) image }))
+    answer_of r >>= (λ s. ok (record { value = record { stack = s; rights = take segments (drop (at + 5) image) }; rest = drop (at + 5 + segments) image }))
 
 -- the arrays of the segments, and the bytes after them
 pub record SegmentRows : Type 0 where
@@ -66,11 +66,11 @@ domain_rows a = a >>= (λ r. ok (record { stacks = padded 8 (stacks_of r.value);
 
 -- what the code's rows of the segments stand for
 abbrev pub segments_answer : List ℕ → Result Segments Refusal → Answer SegmentRows
-segments_answer image r = answer r >>= (λ s. ok (record { lengths = s.lengths; gates = s.gates; gatedomains = s.gatedomains; rest = drop s.next image }))
+segments_answer image r = answer_of r >>= (λ s. ok (record { lengths = s.lengths; gates = s.gates; gatedomains = s.gatedomains; rest = drop s.next image }))
 
 -- what the code's rows of the domains stand for
 abbrev pub domains_answer : List ℕ → Result Domains Refusal → Answer DomainRows
-domains_answer image r = answer r >>= (λ d. ok (record { stacks = d.stacks; rights = d.rights; rest = drop d.next image }))
+domains_answer image r = answer_of r >>= (λ d. ok (record { stacks = d.stacks; rights = d.rights; rest = drop d.next image }))
 
 -- the layout of a head and its rows
 abbrev pub rows_layout : Head → SegmentRows → DomainRows → Layout

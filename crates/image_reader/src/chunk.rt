@@ -1,6 +1,6 @@
 // Chunks of an image.
 ghost use Rattle.std.specs.Prelude.{◌≡◌, drop};
-ghost use Rattle.words.specs.Refusal.{answer};
+ghost use Rattle.words.specs.Refusal.{answer_of};
 ghost use Rattle.image_format.specs.Chunk.{header_of, chunk_of, exactly};
 ghost use Rattle.image_reader.specs.Private.{chunk_answer};
 
@@ -9,7 +9,7 @@ use words::refusal::Refusal;
 
 // The header at a place, of the kind that is due: the length of its body.
 pub fn header(image: &[u8], at: usize, kind: u16) -> Result<u16, Refusal>
-    ensures { answer result ≡ header_of kind (drop at image.now) }
+    ensures { answer_of result ≡ header_of kind (drop at image.now) }
 {
     if left(image, at) < 4 {
         return Err(Refusal::CutShort);

@@ -1,7 +1,7 @@
 // Kind 1: the counts and the start.
 ghost use Rattle.std.specs.Prelude.{◌≡◌};
 ghost use Rattle.words.specs.PointerWord.{pointer_of};
-ghost use Rattle.words.specs.Refusal.{answer};
+ghost use Rattle.words.specs.Refusal.{answer_of};
 ghost use Rattle.image_format.specs.Head.{located, head_fields, head_of};
 ghost use Rattle.image_reader.specs.Private.{head_answer};
 
@@ -14,7 +14,7 @@ use words::refusal::Refusal;
 
 // A pointer word that is untagged and names a segment that exists.
 fn start_pointer(segments: u8, location: u32) -> Result<Pointer, Refusal>
-    ensures { answer result ≡ located segments (pointer_of location) }
+    ensures { answer_of result ≡ located segments (pointer_of location) }
 {
     let Ok(p) = unpack(location) else {
         return Err(Refusal::BadField);
@@ -30,7 +30,7 @@ fn start_pointer(segments: u8, location: u32) -> Result<Pointer, Refusal>
 
 // The fields of a head, judged.
 fn fields(segments: u8, domains: u8, domain: u8, unused: u8, location: u32) -> Result<Head, Refusal>
-    ensures { answer result ≡ head_fields segments domains domain unused location }
+    ensures { answer_of result ≡ head_fields segments domains domain unused location }
 {
     if segments < 1 {
         return Err(Refusal::BadField);

@@ -1,6 +1,6 @@
 // A whole image, judged before anything is stored.
 ghost use Rattle.std.specs.Prelude.{◌≡◌, ◌≤◌, drop};
-ghost use Rattle.words.specs.Refusal.{answer};
+ghost use Rattle.words.specs.Refusal.{answer_of};
 ghost use Rattle.image_format.specs.Image.{image_of, layout_of};
 ghost use Rattle.image_reader.specs.Reader.{mapped};
 ghost use Rattle.image_reader.specs.Private.{end_of, after_segments};
@@ -17,7 +17,7 @@ use words::refusal::Refusal;
 
 // Kind 4 at a place, then that the gates pass their test, and no bytes after kind 4.
 fn end(image: &[u8], at: usize, pass: bool) -> Result<(), Refusal>
-    ensures { answer result ≡ end_of pass (drop at image.now) }
+    ensures { answer_of result ≡ end_of pass (drop at image.now) }
 {
     exact(image, at, 4, 0)?;
     let rest = left(image, at);
@@ -33,7 +33,7 @@ fn end(image: &[u8], at: usize, pass: bool) -> Result<(), Refusal>
 // What comes after the segments.
 fn after_segments(image: &[u8], h: Head, s: Segments) -> Result<Layout, Refusal>
     requires { (h.segments ≤ 16) × (h.domains ≤ 8) }
-    ensures { answer result ≡ after_segments h (record { lengths = s.lengths; gates = s.gates; gatedomains = s.gatedomains; rest = drop s.next image.now }) }
+    ensures { answer_of result ≡ after_segments h (record { lengths = s.lengths; gates = s.gates; gatedomains = s.gatedomains; rest = drop s.next image.now }) }
 {
     let d = domain_chunks(image, s.next, h.domains, h.segments)?;
     let pass = gates_sound(&s.gates, &s.gatedomains, &d.rights);
@@ -52,7 +52,7 @@ fn after_segments(image: &[u8], h: Head, s: Segments) -> Result<Layout, Refusal>
 
 // The layout that an image gives, or its refusal.
 pub fn judge(image: &[u8]) -> Result<Layout, Refusal>
-    ensures { answer result ≡ mapped layout_of (image_of image.now) }
+    ensures { answer_of result ≡ mapped layout_of (image_of image.now) }
 {
     let h = head_chunk(image)?;
     let s = segment_chunks(image, 12, h.segments, h.domains)?;

@@ -1,6 +1,6 @@
 // Kind 2: the segments.
 ghost use Rattle.std.specs.Prelude.{◌≡◌, ◌+◌, ◌≤◌, length, drop};
-ghost use Rattle.words.specs.Refusal.{answer};
+ghost use Rattle.words.specs.Refusal.{answer_of};
 ghost use Rattle.image_format.specs.Chunk.{chunk_at};
 ghost use Rattle.image_format.specs.Segment.{segment_length, segment_fields, segment_read, segment_of, segments_of};
 ghost use Rattle.image_reader.specs.Private.{segment_answer, segment_rows, segments_answer};
@@ -29,7 +29,7 @@ pub struct Segments {
 
 // The length of a body, judged, with room for so many words.
 fn body_length(room: u16, n: u16) -> Result<(), Refusal>
-    ensures { answer result ≡ segment_length room n }
+    ensures { answer_of result ≡ segment_length room n }
 {
     if n < 8 {
         return Err(Refusal::WrongLength);
@@ -48,7 +48,7 @@ fn body_length(room: u16, n: u16) -> Result<(), Refusal>
 
 // The fields of a segment, judged.
 fn fields(domains: u8, count: u16, gates: u16, domain: u8, unused: u8) -> Result<(), Refusal>
-    ensures { answer result ≡ segment_fields domains count gates domain unused }
+    ensures { answer_of result ≡ segment_fields domains count gates domain unused }
 {
     if count < gates {
         return Err(Refusal::BadField);

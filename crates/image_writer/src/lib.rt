@@ -6,7 +6,7 @@ mod chunk_output;
 mod output;
 
 ghost use Rattle.std.specs.Prelude.{◌≡◌, true, ◌++◌, ◌≤◌, length, drop};
-ghost use Rattle.words.specs.Refusal.{answer};
+ghost use Rattle.words.specs.Refusal.{answer_of};
 ghost use Rattle.layout_soundness.specs.SoundLayout.{ranges_test};
 ghost use Rattle.image_format.specs.Image.{image_from, bytes_of};
 ghost use Rattle.image_writer.specs.Writer.{write_image, write_result, output_after};
@@ -53,7 +53,7 @@ fn put_image(output: &mut [u8], layout: Layout, words: &[u32])
 
 // Writes the image of a machine and its memory, and gives its length. Refused, the output is as it was.
 pub fn write(m: Machine, words: &[u32], output: &mut [u8]) -> Result<usize, Refusal>
-    ensures value { answer result ≡ write_result (write_image m words.now output.old) }
+    ensures value { answer_of result ≡ write_result (write_image m words.now output.old) }
     ensures output_after { output.new ≡ output_after output.old (write_image m words.now output.old) }
 {
     if !sound(m) {

@@ -3,7 +3,7 @@
 #![tactic(auto)]
 
 ghost use Rattle.std.specs.Prelude.{◌≡◌, ℕ, ◌<◌, get_or, set, Ok};
-ghost use Rattle.words.specs.Refusal.{answer, status};
+ghost use Rattle.words.specs.Refusal.{answer_of, status};
 ghost use Rattle.references.specs.Reference.{verdict_of};
 ghost use Rattle.references.specs.declared.flag.Access.TheVariants as access;
 ghost use Rattle.lent_registers.specs.Columns.{registers_of};
@@ -38,7 +38,7 @@ pub fn read(
     recent: &[u8; 160],
     p: Pointer,
 ) -> Result<u32, Refusal>
-    ensures { answer result ≡ read_of view.now.layout.lengths view.now.layout.rights view.now.bases words.now domain (registers_of recent.now) view.now.depth view.now.frame p }
+    ensures { answer_of result ≡ read_of view.now.layout.lengths view.now.layout.rights view.now.bases words.now domain (registers_of recent.now) view.now.depth view.now.frame p }
 {
     let i = reference(view, domain, recent, Access::Read, p)?;
     Ok(word_at(words, i))
@@ -63,7 +63,7 @@ pub fn write(
 
 // The word at the location, fetched as an instruction. There is a word number after one that exists.
 pub fn fetch(view: &View, words: &[u32], domain: u8, segment: u8, word: u16) -> Result<u32, Refusal>
-    ensures result_value { answer result ≡ fetch_of view.now.layout.lengths view.now.layout.rights view.now.bases words.now domain segment word }
+    ensures result_value { answer_of result ≡ fetch_of view.now.layout.lengths view.now.layout.rights view.now.bases words.now domain segment word }
     ensures by_index { (w : ℕ) → result ≡ Ok w → word < 65535 }
 {
     if of_segment(&view.layout.lengths, segment) <= word {

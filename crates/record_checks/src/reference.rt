@@ -1,6 +1,6 @@
 // The check of a reference by the executing domain, on a whole record.
 ghost use Rattle.std.specs.Prelude.{◌≡◌};
-ghost use Rattle.words.specs.Refusal.{answer};
+ghost use Rattle.words.specs.Refusal.{answer_of};
 ghost use Rattle.record_checks.specs.Judged.{judged_check};
 
 use crate::view::view_of;
@@ -14,7 +14,7 @@ use words::refusal::Refusal;
 
 // The check of a reference by the executing domain, live for a tagged pointer, static for another; NotSound for a record that is not sound.
 pub fn check_reference(m: Machine, access: Access, p: Pointer) -> Result<usize, Refusal>
-    ensures { answer result ≡ judged_check m access p }
+    ensures { answer_of result ≡ judged_check m access p }
 {
     if !sound(m) {
         return Err(Refusal::NotSound);

@@ -1,6 +1,6 @@
 // The static check of a domain, on a whole record.
 ghost use Rattle.std.specs.Prelude.{◌≡◌};
-ghost use Rattle.words.specs.Refusal.{answer};
+ghost use Rattle.words.specs.Refusal.{answer_of};
 ghost use Rattle.record_checks.specs.Judged.{judged_static};
 
 use crate::view::view_of;
@@ -18,7 +18,7 @@ pub fn check_static(
     segment: u8,
     word: u16,
 ) -> Result<usize, Refusal>
-    ensures { answer result ≡ judged_static m domain flag segment word }
+    ensures { answer_of result ≡ judged_static m domain flag segment word }
 {
     if !sound(m) {
         return Err(Refusal::NotSound);

@@ -1,6 +1,6 @@
 // The live check (dynamic access validation), and arguments that are passed on.
 ghost use Rattle.std.specs.Prelude.{◌≡◌};
-ghost use Rattle.words.specs.Refusal.{answer, status};
+ghost use Rattle.words.specs.Refusal.{answer_of, status};
 ghost use Rattle.references.specs.Live.{live_through, passed_of};
 ghost use Rattle.references.specs.Private.{found_source};
 ghost use Rattle.lent_registers.specs.Columns.{registers_of};
@@ -21,7 +21,7 @@ pub fn pass_on(
     read: bool,
     write: bool,
 ) -> Result<u8, Refusal>
-    ensures { answer result ≡ passed_of view.now.depth view.now.frame segment word length read write }
+    ensures { answer_of result ≡ passed_of view.now.depth view.now.frame segment word length read write }
 {
     if view.depth == 0 {
         return Err(Refusal::NoMatch);
@@ -49,7 +49,7 @@ fn found_source(
     word: u16,
     read: bool,
 ) -> Result<u8, Refusal>
-    ensures { answer result ≡ found_source (registers_of recent.now) view.now.depth view.now.frame segment word read }
+    ensures { answer_of result ≡ found_source (registers_of recent.now) view.now.depth view.now.frame segment word read }
 {
     if view.depth == 0 {
         return Err(Refusal::NoMatch);

@@ -1,6 +1,6 @@
 // The check of a reference by the pointer's tag, and where the word lies.
 ghost use Rattle.std.specs.Prelude.{◌≡◌, ◌+◌};
-ghost use Rattle.words.specs.Refusal.{answer};
+ghost use Rattle.words.specs.Refusal.{answer_of};
 ghost use Rattle.references.specs.Reference.{locate_of, live_reference_of, reference_of};
 ghost use Rattle.lent_registers.specs.Columns.{registers_of};
 
@@ -19,7 +19,7 @@ fn index(base: u32, word: u16) -> usize
 
 // The static check, and where the word lies.
 pub fn locate(view: &View, domain: u8, flag: Flag, segment: u8, word: u16) -> Result<usize, Refusal>
-    ensures { answer result ≡ locate_of view.now.layout.lengths view.now.layout.rights view.now.bases domain flag segment word }
+    ensures { answer_of result ≡ locate_of view.now.layout.lengths view.now.layout.rights view.now.bases domain flag segment word }
 {
     static_check(&view.layout, domain, flag, segment, word)?;
     let i = segment as usize;
@@ -33,7 +33,7 @@ pub fn live_reference(
     access: Access,
     p: Pointer,
 ) -> Result<usize, Refusal>
-    ensures { answer result ≡ live_reference_of view.now.layout.lengths view.now.layout.rights view.now.bases (registers_of recent.now) view.now.depth view.now.frame access p.segment p.word }
+    ensures { answer_of result ≡ live_reference_of view.now.layout.lengths view.now.layout.rights view.now.bases (registers_of recent.now) view.now.depth view.now.frame access p.segment p.word }
 {
     live_check(view, recent, access, p.segment, p.word)?;
     let i = p.segment as usize;
@@ -48,7 +48,7 @@ pub fn reference(
     access: Access,
     p: Pointer,
 ) -> Result<usize, Refusal>
-    ensures { answer result ≡ reference_of view.now.layout.lengths view.now.layout.rights view.now.bases domain (registers_of recent.now) view.now.depth view.now.frame access p }
+    ensures { answer_of result ≡ reference_of view.now.layout.lengths view.now.layout.rights view.now.bases domain (registers_of recent.now) view.now.depth view.now.frame access p }
 {
     if p.tag {
         live_reference(view, recent, access, p)

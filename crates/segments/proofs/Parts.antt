@@ -10,7 +10,7 @@ use lib.ListN.{length, get_or, take, drop, length-take, length-drop}
 use Rattle.std.specs.Prelude.{Result, Ok, Err}
 use Rattle.std.specs.Result.{is_err}
 use Rattle.words.specs.declared.refusal.Refusal.{Refusal}
-use Rattle.words.specs.Refusal.{answer}
+use Rattle.words.specs.Refusal.{answer_of}
 use Rattle.words.specs.Answer.{Answer, ok, ◌>>◌, require, number_of}
 use Rattle.state.specs.declared.record.Machine.{Machine}
 use Rattle.state.specs.Bases.{base_of}
@@ -55,12 +55,12 @@ given m size number n q z =
 
 module _ (m : Machine) (size number : ℕ) where
   -- what the code's judgement says of a part: refused it is empty, at the memory's start
-  pub none : (r : Result (Unit {0}) Refusal) → answer r ≡ segment_check m size number → is_err r ≡ true
+  pub none : (r : Result (Unit {0}) Refusal) → answer_of r ≡ segment_check m size number → is_err r ≡ true
       → (part_start m size number ≡ 0) × (part_size m size number ≡ 0)
   none (Ok u) a e = absurd (cc)
   none (Err x) a e = rw (← a) (refl, refl)
 
-  pub some : (r : Result (Unit {0}) Refusal) → answer r ≡ segment_check m size number → is_err r ≡ false → Given m size number
+  pub some : (r : Result (Unit {0}) Refusal) → answer_of r ≡ segment_check m size number → is_err r ≡ false → Given m size number
   some (Ok u) a e = given m size number 0 (ap number_of a) refl
   some (Err x) a e = absurd (cc)
 

@@ -4,7 +4,7 @@
 
 ghost use Rattle.std.specs.Prelude.{◌≡◌, ◌+◌, ◌≤◌, length};
 ghost use Rattle.segments.specs.Segment.{segment_check, segment_number, segment_part, part_start, part_size, word_place};
-ghost use Rattle.words.specs.Refusal.{answer, status};
+ghost use Rattle.words.specs.Refusal.{answer_of, status};
 
 use soundness::sound;
 use state::bases::bases;
@@ -14,7 +14,7 @@ use words::refusal::Refusal;
 // Whether there is such a part of a memory of size words, and else why not.
 #[tactic(auto, unfolding(crate::specs::Segment::segment_check))]
 fn judge(m: Machine, size: usize, number: u8) -> Result<(), Refusal>
-    ensures { answer result ≡ segment_check m size number }
+    ensures { answer_of result ≡ segment_check m size number }
 {
     if !sound(m) {
         return Err(Refusal::NotSound);

@@ -31,9 +31,9 @@ number reason.NoFreeFrame = no_free_frame
 number reason.BadReturn = bad_return
 
 -- what the code's result stands for
-abbrev pub answer : {A : Type 0} → Result A Refusal → Answer A
-answer (Ok a) = ok a
-answer (Err r) = refuse (number r)
+abbrev pub answer_of : {A : Type 0} → Result A Refusal → Answer A
+answer_of (Ok a) = ok a
+answer_of (Err r) = refuse (number r)
 
 -- the number that a call returns to C: 0, or that of the refusal
 abbrev pub status : {A : Type 0} → Result A Refusal → ℕ

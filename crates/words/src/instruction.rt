@@ -2,7 +2,7 @@
 ghost use Rattle.std.specs.Prelude.{◌≡◌, ◌<◌};
 ghost use Rattle.words.specs.Offset.{signed_of};
 ghost use Rattle.words.specs.InstructionWord.{instruction_of};
-ghost use Rattle.words.specs.Refusal.{answer};
+ghost use Rattle.words.specs.Refusal.{answer_of};
 ghost use Rattle.words.specs.Private.{HasMask};
 
 use crate::bits::bits;
@@ -29,7 +29,7 @@ fn signed(offset: u32) -> i32
 // The instruction that a word holds, given its opcode's mask: the bits that must be 0.
 fn decode_under(word: u32, mask: u32) -> Result<Instruction, Refusal>
     requires { HasMask word mask }
-    ensures { answer result ≡ instruction_of word }
+    ensures { answer_of result ≡ instruction_of word }
 {
     if word & mask != 0 {
         return Err(Refusal::BadInstruction);
@@ -45,7 +45,7 @@ fn decode_under(word: u32, mask: u32) -> Result<Instruction, Refusal>
 
 // The instruction that a word holds.
 pub fn decode(word: u32) -> Result<Instruction, Refusal>
-    ensures { answer result ≡ instruction_of word }
+    ensures { answer_of result ≡ instruction_of word }
 {
     let opcode = bits(word, 24, 8);
     match opcode {

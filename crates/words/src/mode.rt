@@ -1,7 +1,7 @@
 // Mode words: what an argument's pointer word covers, and the flags asked for it.
 ghost use Rattle.std.specs.Prelude.{◌≡◌};
 ghost use Rattle.words.specs.ModeWord.{mode_of};
-ghost use Rattle.words.specs.Refusal.{answer};
+ghost use Rattle.words.specs.Refusal.{answer_of};
 
 use crate::bits::bits;
 use crate::refusal::Refusal;
@@ -16,7 +16,7 @@ pub struct Mode {
 
 // The mode that a word holds, for an argument that starts at word number `start`.
 pub fn unpack(word: u32, start: u16) -> Result<Mode, Refusal>
-    ensures { answer result ≡ mode_of word start }
+    ensures { answer_of result ≡ mode_of word start }
 {
     let length = bits(word, 0, 13);
     if length == 0 {

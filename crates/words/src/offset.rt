@@ -1,13 +1,13 @@
 // The signed offset of an instruction, and what is added up with it.
 ghost use Rattle.std.specs.Prelude.{◌≡◌, pos};
 ghost use Rattle.words.specs.Offset.{displaced_of, literal_of};
-ghost use Rattle.words.specs.Refusal.{answer};
+ghost use Rattle.words.specs.Refusal.{answer_of};
 
 use crate::refusal::Refusal;
 
 // A word number plus an offset.
 pub fn displace(word: u16, offset: i32) -> Result<u16, Refusal>
-    ensures { answer result ≡ displaced_of word offset }
+    ensures { answer_of result ≡ displaced_of word offset }
 {
     if offset < -65535 {
         return Err(Refusal::OutOfRange);
@@ -27,7 +27,7 @@ pub fn displace(word: u16, offset: i32) -> Result<u16, Refusal>
 
 // A word number plus a count.
 pub fn climb(word: u16, count: u16) -> Result<u16, Refusal>
-    ensures { answer result ≡ displaced_of word (pos count) }
+    ensures { answer_of result ≡ displaced_of word (pos count) }
 {
     let sum = word as u32 + count as u32;
     if 4095 < sum {

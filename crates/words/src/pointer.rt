@@ -1,7 +1,7 @@
 // Pointers, and the words that hold them.
 ghost use Rattle.std.specs.Prelude.{◌≡◌};
 ghost use Rattle.words.specs.PointerWord.{pointer_of, pointer_word};
-ghost use Rattle.words.specs.Refusal.{answer};
+ghost use Rattle.words.specs.Refusal.{answer_of};
 
 use crate::bits::bits;
 use crate::refusal::Refusal;
@@ -25,7 +25,7 @@ impl Pointer {
 
 // The pointer that a word holds.
 pub fn unpack(word: u32) -> Result<Pointer, Refusal>
-    ensures { answer result ≡ pointer_of word }
+    ensures { answer_of result ≡ pointer_of word }
 {
     if bits(word, 16, 15) != 0 {
         return Err(Refusal::BadPointer);

@@ -1,6 +1,6 @@
 -- `arguments::arguments` meets its contract.
 use mathlib.Core.Path.{sym, ap, ◌∙◌}
-use Rattle.words.specs.Refusal.{answer}
+use Rattle.words.specs.Refusal.{answer_of}
 use Rattle.words.proofs.Results.{handed_on}
 use Rattle.arguments.proofs.Rest.{all_rest, refused-rest, taken-rest, no-rest}
 use Rattle.arguments.proofs.arguments.Goals as goal
@@ -14,7 +14,7 @@ loop-i-preserved c =
 
 pub returns-in_err-c : goal.returns-in_err-c
 returns-in_err-c c =
-    ap answer (handed_on c.from_residual.result _ c.from_residual.ensures.1) ∙
+    ap answer_of (handed_on c.from_residual.result _ c.from_residual.ensures.1) ∙
     sym (c.loop-i.invariant ∙ refused-rest _ _ _ _ _ _ _ c.loop-i-test.true _ _ (sym c.in_err-c.ensures))
 
 pub returns : goal.returns

@@ -1,6 +1,6 @@
 -- `instructions::cycle::perform` meets its contract.
 use mathlib.Core.Path.{◌≡◌, refl, sym, ap, ◌∙◌, subst}
-use Rattle.words.specs.Refusal.{answer}
+use Rattle.words.specs.Refusal.{answer_of}
 use Rattle.words.specs.declared.pointer.Pointer.{Pointer}
 use Rattle.lent_registers.specs.Columns.{registers_of}
 use borrow.Author.Tests.{eq-eqb, ne_eqb}
@@ -26,7 +26,7 @@ returns-then-opcode-eq12 c =
 
 pub effect-requires : goal.effect-requires
 effect-requires c =
-    (c.requires, λ t. ap (λ (x : Pointer). x.tag) c.indirect_place.ensures ∙ effective-reached _ _ _ _ (sym c.effective.ensures ∙ ap answer c.in-Ok.is) t)
+    (c.requires, λ t. ap (λ (x : Pointer). x.tag) c.indirect_place.ensures ∙ effective-reached _ _ _ _ (sym c.effective.ensures ∙ ap answer_of c.in-Ok.is) t)
 
 pub returns-in-Err : goal.returns-in-Err
 unfolding execute_of made_by renewed_all
