@@ -18,10 +18,7 @@ pub fn put_crossing(log: &mut [u8], at: usize, called: bool, left: u8, r: Regist
     requires { at + 6 ≤ length log.old }
     ensures { log.new ≡ written log.old at (crossing_bytes (crossing_by (if called then call else return) left r)) }
 {
-    log[at] = kind_byte(called);
-    log[at + 1] = left;
-    log[at + 2] = r.domain;
-    log[at + 3] = r.segment;
-    log[at + 4] = (r.word % 256) as u8;
-    log[at + 5] = (r.word / 256 % 256) as u8;
+    let [low, high] = r.word.to_le_bytes();
+    let bytes = [kind_byte(called), left, r.domain, r.segment, low, high];
+    log[at..at + 6].copy_from_slice(&bytes);
 }

@@ -1,5 +1,5 @@
 -- `crossing_log::judge_log` meets its contract.
-use mathlib.Core.Path.{refl, sym, ap, ◌∙◌}
+use mathlib.Core.Path.{sym, ap}
 use borrow.Author.Tests.{eq-eqb, lt-leb, le-leb}
 use Rattle.words.specs.Refusal.{status}
 use Rattle.words.proofs.Results.{number-ne_0, handed_on}

@@ -1,6 +1,6 @@
 -- `crossing_log::stretches::follow` meets its contract. The invariant: the logged run that the definition gives has come to the record that the locals hold, its words, the log and the totals.
 use borrow.Author.Tests.{lt-ltb, le-ltb}
-use Prim.Native.Nat.{◌+◌, ◌-◌, ◌<◌, ◌≤◌}
+use Prim.Native.Nat.{◌+◌, ◌<◌, ◌≤◌}
 use native.Mathlib.Omega.{arith}
 use mathlib.Core.Path.{sym}
 use Rattle.crossing_log.proofs.TurnLaws.{starts, counted, same_after, ends, some, fits, called_on, returned-on}
