@@ -6,7 +6,10 @@ use mathlib.Core.List.{List}
 use mathlib.Core.Path.{◌≡◌, refl, ap, ◌∙◌}
 use borrow.Author.Tests.{le-leb}
 use lib.ListN.{length, drop, replicate, length-append, length-drop, length-replicate}
-use Rattle.words.specs.Answer.{Answer, refuse, ok, ◌>>=◌}
+use Rattle.words.specs.Answer.{Answer, refuse, ok, ◌>>=◌, number_of}
+use Rattle.words.specs.Refusal.{number}
+use Rattle.words.specs.declared.refusal.Refusal.{Refusal}
+use Rattle.words.proofs.Results.{number-some}
 use Rattle.state.specs.declared.record.Machine.{Machine}
 use Rattle.soundness.specs.Sound.{sound_test}
 use Rattle.fresh.specs.Fresh.{fresh_of}
@@ -15,7 +18,6 @@ use Rattle.processor.specs.Calls.{run_of, run_call}
 use Rattle.image_format.specs.Segment.{all_words}
 use Rattle.image_format.specs.Image.{Image, image_of, layout_of}
 use Rattle.image_reader.specs.Reader.{read_image, machine_after, memory_after}
-use Rattle.image_reader.specs.declared.ReadAnswer.{ReadAnswer}
 use Rattle.roundtrips.proofs.Accepted.{accepted}
 use Rattle.roundtrips.proofs.AcceptedSound.{accepted-sound}
 use Rattle.entry.specs.ImageRun.{Final, final_of, memory_of, machine_run, image_run, empty_machine, closed}
@@ -46,30 +48,29 @@ module _ (limit : ℕ) (bytes : List ℕ) where
   read-zeros : read_image bytes zeros ≡ image_of bytes
   read-zeros = read-room zeros zeros-length
 
-  refused-by : (a : Answer Image) → ((machine_after empty_machine a).number ≡ 0 → ⊥)
-      → record { machine = (machine_after empty_machine a).machine; count = 0; ending = refused (machine_after empty_machine a).number } ≡ closed (a >>= ran_final limit)
+  refused-by : (a : Answer Image) (r : Refusal) → number r ≡ number_of a
+      → record { machine = machine_after empty_machine a; count = 0; ending = refused (number r) } ≡ closed (a >>= ran_final limit)
   unfolding machine_after
-  refused-by (refuse n) h = refl
-  refused-by (ok i) h = absurd (h refl)
+  refused-by (refuse n) r e = ap (λ (k : ℕ). record { machine = empty_machine; count = 0; ending = refused k }) e
+  refused-by (ok i) r e = absurd (number-some r e)
 
   -- a refused image
-  pub refused-run : (r : ReadAnswer) → r ≡ machine_after empty_machine (read_image bytes zeros) → (r.number ≡ 0 → ⊥)
-      → record { machine = r.machine; count = 0; ending = refused r.number } ≡ closed (image_run limit bytes)
+  pub refused-run : (m : Machine) (r : Refusal) → m ≡ machine_after empty_machine (read_image bytes zeros) → number r ≡ number_of (read_image bytes zeros)
+      → record { machine = m; count = 0; ending = refused (number r) } ≡ closed (image_run limit bytes)
   unfolding image_run
-  refused-run r e h = rw (e, read-zeros) (refused-by (image_of bytes) (rw (e, read-zeros) at h))
+  refused-run m r e n = rw (e, read-zeros) (refused-by (image_of bytes) r (rw read-zeros at n))
 
   called : (m : Machine) (words : List ℕ) → sound_test m ≡ true → length words ≡ 8192 → run_call limit m words ≡ run_of limit m words
   unfolding run_call called_of judged
   called m words s l = simp (s, le-leb 8192 (length words) (omega arith))
 
-  passed-by : (a : Answer Image) → image_of bytes ≡ a → (machine_after empty_machine a).number ≡ 0
-      → final_of (run_call limit (machine_after empty_machine a).machine (memory_after zeros a)) ≡ closed (a >>= ran_final limit)
+  passed-by : (a : Answer Image) → image_of bytes ≡ a → 0 ≡ number_of a → final_of (run_call limit (machine_after empty_machine a) (memory_after zeros a)) ≡ closed (a >>= ran_final limit)
   unfolding machine_after
   passed-by (refuse n) e h = absurd (let q = image-number bytes n e in omega (arith, q.0, h))
   passed-by (ok i) e h = ap final_of (called (fresh_of (layout_of i)) (memory_of i) (accepted-sound bytes i e) (memory-length i (accepted bytes i e).words))
 
   -- an accepted image
-  pub passed-run : (r : ReadAnswer) (words : List ℕ) → r ≡ machine_after empty_machine (read_image bytes zeros) → words ≡ memory_after zeros (read_image bytes zeros) → r.number ≡ 0
-      → final_of (run_call limit r.machine words) ≡ closed (image_run limit bytes)
+  pub passed-run : (m : Machine) (words : List ℕ) → m ≡ machine_after empty_machine (read_image bytes zeros) → words ≡ memory_after zeros (read_image bytes zeros) → 0 ≡ number_of (read_image bytes zeros)
+      → final_of (run_call limit m words) ≡ closed (image_run limit bytes)
   unfolding image_run
-  passed-run r words e w h = rw (e, w, read-zeros) (passed-by (image_of bytes) refl (rw (e, read-zeros) at h))
+  passed-run m words e w h = rw (e, w, read-zeros) (passed-by (image_of bytes) refl (rw read-zeros at h))

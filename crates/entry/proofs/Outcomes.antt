@@ -4,6 +4,8 @@ use native.Mathlib.Omega.{arith}
 use mathlib.Core.List.{List}
 use mathlib.Core.Path.{◌≡◌, refl, sym, ap, subst, ◌∙◌}
 use Rattle.words.specs.Answer.{Answer, refuse, ok}
+use Rattle.words.specs.Refusal.{number}
+use Rattle.words.specs.declared.refusal.Refusal.{Refusal}
 use Rattle.runs.specs.declared.outcome.End.{End}
 use Rattle.runs.specs.declared.outcome.End.TheVariants as end
 use Rattle.runs.specs.declared.outcome.Outcome.{Outcome}
@@ -19,29 +21,29 @@ is_refused (faulted n) = 0
 is_refused (refused n) = 1
 
 -- an end that is not refused stands for no refusal
-no-refusal : (e : End) (k : ℕ) → end_answer e ≡ refused k → ((n : ℕ) → e ≡ end.Refused n → ⊥) → ⊥
+no-refusal : (e : End) (k : ℕ) → end_answer e ≡ refused k → ((r : Refusal) → e ≡ end.Refused r → ⊥) → ⊥
 no-refusal end.Halted k q h = let z : ◌≡◌ {A = ℕ} 0 1 = ap is_refused q in omega (arith, z)
-no-refusal (end.Faulted n) k q h = let z : ◌≡◌ {A = ℕ} 0 1 = ap is_refused q in omega (arith, z)
+no-refusal (end.Faulted r) k q h = let z : ◌≡◌ {A = ℕ} 0 1 = ap is_refused q in omega (arith, z)
 no-refusal end.Spent k q h = let z : ◌≡◌ {A = ℕ} 0 1 = ap is_refused q in omega (arith, z)
 no-refusal end.Crossed k q h = let z : ◌≡◌ {A = ℕ} 0 1 = ap is_refused q in omega (arith, z)
-no-refusal (end.Refused n) k q h = h n refl
+no-refusal (end.Refused r) k q h = h r refl
 
 abbrev ending : Final → Ending
 ending r = r.ending
 
 module _ (limit : ℕ) (bytes : List ℕ) (o : Outcome) where
-  refused-by : (n : ℕ) (a : Answer Final) → image_run limit bytes ≡ a → outcome_answer o ≡ closed a → o.end ≡ end.Refused n → a ≡ refuse n
-  refused-by n (refuse k) e q r = let z : refused n ≡ refused k = sym (ap end_answer r) ∙ ap ending q in ap refuse (let w : k ≡ n = cc in w)
-  refused-by n (ok x) e q r =
-      absurd (subst Listed (let z : x.ending ≡ refused n = sym (ap ending q) ∙ ap end_answer r in z) (image-ends limit bytes x e))
+  refused-by : (r : Refusal) (a : Answer Final) → image_run limit bytes ≡ a → outcome_answer o ≡ closed a → o.end ≡ end.Refused r → a ≡ refuse (number r)
+  refused-by r (refuse k) e q h = let z : refused (number r) ≡ refused k = sym (ap end_answer h) ∙ ap ending q in ap refuse (let w : k ≡ number r = cc in w)
+  refused-by r (ok x) e q h =
+      absurd (subst Listed (let z : x.ending ≡ refused (number r) = sym (ap ending q) ∙ ap end_answer h in z) (image-ends limit bytes x e))
 
-  passed-by : (a : Answer Final) → outcome_answer o ≡ closed a → ((n : ℕ) → o.end ≡ end.Refused n → ⊥) → a ≡ ok (outcome_answer o)
+  passed-by : (a : Answer Final) → outcome_answer o ≡ closed a → ((r : Refusal) → o.end ≡ end.Refused r → ⊥) → a ≡ ok (outcome_answer o)
   passed-by (refuse k) q h = absurd (no-refusal o.end k (ap ending q) h)
   passed-by (ok x) q h = ap ok (sym q)
 
   module _ (q : outcome_answer o ≡ closed (image_run limit bytes)) where
-    pub outcome-refused : (n : ℕ) → o.end ≡ end.Refused n → image_run limit bytes ≡ refuse n
-    outcome-refused n r = refused-by n (image_run limit bytes) refl q r
+    pub outcome-refused : (r : Refusal) → o.end ≡ end.Refused r → image_run limit bytes ≡ refuse (number r)
+    outcome-refused r h = refused-by r (image_run limit bytes) refl q h
 
-    pub outcome-passed : ((n : ℕ) → o.end ≡ end.Refused n → ⊥) → image_run limit bytes ≡ ok (outcome_answer o)
+    pub outcome-passed : ((r : Refusal) → o.end ≡ end.Refused r → ⊥) → image_run limit bytes ≡ ok (outcome_answer o)
     outcome-passed h = passed-by (image_run limit bytes) q h

@@ -12,13 +12,12 @@ pub fn run_image(image: &[u8], limit: u16) -> Outcome
     ensures { outcome_answer result ≡ closed (image_run limit image.now) }
 {
     let mut words = [0u32; 8192];
-    let r = read(image, fresh(empty_layout()), &mut words);
-    let machine = r.machine;
-    if r.number != 0 {
+    let mut machine = fresh(empty_layout());
+    if let Err(refusal) = read(image, &mut machine, &mut words) {
         return Outcome {
             machine,
             count: 0,
-            end: End::Refused(r.number),
+            end: End::Refused(refusal),
         };
     }
     run(machine, &mut words, limit)

@@ -5,17 +5,14 @@ use Rattle.image_reader.specs.Reader.{read_image, machine_after}
 use Rattle.entry.specs.ImageRun.{final_of, empty_machine}
 use Rattle.entry.proofs.ImageRuns.{refused-run, passed-run}
 use Rattle.entry.proofs.image_run.run_image.Goals as goal
+use Rattle.entry.proofs.image_run.run_image.Goals.{After-read}
 
-pub returns-then-r-ne0 : goal.returns-then-r-ne0
-returns-then-r-ne0 c =
-    let read_is : let f = c.before.before in
-    c.read-r.result ≡ machine_after empty_machine (read_image f.args.image.now (replicate 8192 0)) = let f = c.before.before in rw (f.fresh.ensures, f.empty_layout.ensures) at c.read-r.ensures.value in
-    refused-run _ _ _ (read_is) c.if-r-ne0.true
+-- the machine that the read left
+read_is : (c : After-read) → c.read.new.m ≡ machine_after empty_machine (read_image c.args.image.now (replicate 8192 0))
+read_is c = rw (c.fresh-machine.ensures, c.empty_layout.ensures) at c.read.ensures.machine_after
+
+pub returns-in-Err : goal.returns-in-Err
+returns-in-Err c = refused-run _ _ _ c.in-Err.refusal (read_is (goal.at.returns-in-Err c).After-read) c.in-Err.ensures.value
 
 pub returns : goal.returns
-returns c =
-    let read_is : let f = c.before.before in
-    c.read-r.result ≡ machine_after empty_machine (read_image f.args.image.now (replicate 8192 0)) = let f = c.before.before in rw (f.fresh.ensures, f.empty_layout.ensures) at c.read-r.ensures.value in
-    let n = c.before in
-    let f = n.before.before in
-    ap final_of n.run.ensures ∙ passed-run _ _ _ _ (read_is) f.read-r.ensures.words_after f.if-r-ne0.false
+returns c = ap final_of c.run.ensures ∙ passed-run _ _ _ _ (read_is (goal.at.returns c).After-read) c.read.ensures.words_after c.in_default.ensures.value
