@@ -6,15 +6,10 @@ ghost use Rattle.std.specs.Prelude.{◌≡◌};
 ghost use Rattle.processor.specs.Calls.{step_call, run_call, stretch_call};
 ghost use Rattle.in_place.specs.InPlace.{step_in_place, ran_in_place};
 
+use processor::Pace;
 use runs::outcome::End;
 use state::record::Machine;
-
-// The number of a refusal or a fault; 0 for a completed instruction.
-#[derive(Clone, Copy)]
-pub struct StepResult {
-    pub number: u8,
-    pub halted: bool,
-}
+use words::refusal::Refusal;
 
 #[derive(Clone, Copy)]
 pub struct RunResult {
@@ -23,15 +18,12 @@ pub struct RunResult {
 }
 
 // One instruction.
-pub fn step(m: &mut Machine, words: &mut [u32]) -> StepResult
+pub fn step(m: &mut Machine, words: &mut [u32]) -> Result<Pace, Refusal>
     ensures { step_in_place m.new words.new result ≡ step_call m.old words.old }
 {
     let s = processor::step(*m, words);
     *m = s.machine;
-    StepResult {
-        number: s.number,
-        halted: s.halted,
-    }
+    s.pace
 }
 
 // At most limit instructions.
