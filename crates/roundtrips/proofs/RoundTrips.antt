@@ -7,8 +7,7 @@ use mathlib.Core.List.{List, ◌++◌}
 use lib.Dec.{leb}
 use lib.ListN.{length, drop, length-append, length-drop}
 use borrow.Author.Tests.{le-leb, leb-true}
-use Rattle.words.specs.Answer.{Answer, ok, ◌>>◌, require}
-use Rattle.state.specs.declared.record.Layout.{Layout}
+use Rattle.words.specs.Answer.{Answer, ok, number_of, ◌>>◌, require}
 use Rattle.state.specs.declared.record.Machine.{Machine}
 use Rattle.state.specs.Bases.{words_in}
 use Rattle.soundness.specs.Sound.{sound_test}
@@ -58,7 +57,8 @@ write-then-read m words output bytes e a b m' ws h =
     let r : read_image bytes ws ≡ ok i = simp (le-leb 8192 (length ws) h) back in
     let n : length (all_words (segments_in l words)) ≡ words_in l.lengths = words_count l words s a w.enough in
     record {
-      machine = ap (machine_after m') r ∙ ap (λ (x : Layout). record { machine = fresh_of x; number = 0 }) (layout-back l words s a w.enough);
+      number = ap number_of r;
+      machine = ap (machine_after m') r ∙ ap fresh_of (layout-back l words s a w.enough);
       memory = ap (memory_after ws) r ∙ (λ j. words-in-order l words s a w.enough j ++ drop (n j) ws);
     }
 
@@ -70,12 +70,12 @@ read-then-write bytes ws i e m output b h =
     let mem = all_words i.segments ++ drop (length (all_words i.segments)) ws in
     let same : bytes_of (image_from (layout_of i) mem) ≡ bytes = ap bytes_of (image-again i g (drop (length (all_words i.segments)) ws)) ∙ image-forth bytes b r.1 in
     let size : length mem ≡ length ws = length-append (all_words i.segments) (drop (length (all_words i.segments)) ws) ∙ (let z : length (all_words i.segments) + length (drop (length (all_words i.segments)) ws) ≡ length ws = omega (arith, length-drop (length (all_words i.segments)) ws, r.0, g.words) in z) in
-    ap (λ (x : Answer Image). write_image (machine_after m x).machine (memory_after ws x) output) e ∙
+    ap (λ (x : Answer Image). write_image (machine_after m x) (memory_after ws x) output) e ∙
     simp (accepted-sound bytes i r.1, le-leb 8192 (length mem) (omega (arith, r.0)), same, le-leb (length bytes) (length output) h)
 
 pub read-sound : ReadSound
 unfolding machine_after
-read-sound bytes ws i e m = ap (λ (x : Answer Image). sound_test (machine_after m x).machine) e ∙ accepted-sound bytes i (read-image bytes ws i e).1
+read-sound bytes ws i e m = ap (λ (x : Answer Image). sound_test (machine_after m x)) e ∙ accepted-sound bytes i (read-image bytes ws i e).1
 
 pub read-longest : ReadLongest
 read-longest bytes ws i e = longest bytes i (read-image bytes ws i e).1

@@ -1,6 +1,6 @@
 -- What is proved of images; the proofs stand in proofs/RoundTrips.antt.
 use Rattle.std.specs.Prelude.{ℕ, ◌^◌, ◌<◌, ◌≤◌, true, List, ◌++◌, ◌≡◌, length, get_or, take, drop}
-use Rattle.words.specs.Answer.{ok}
+use Rattle.words.specs.Answer.{ok, number_of}
 use Rattle.state.specs.declared.record.Layout.{Layout}
 use Rattle.state.specs.declared.record.Machine.{Machine}
 use Rattle.state.specs.Bases.{words_in}
@@ -24,7 +24,8 @@ Below n xs = (k : ℕ) → get_or xs k 0 < n
 
 -- what a read gives of a layout with its words: the fresh machine of the layout, and its words from the start of the memory
 pub record GivesBack (l : Layout) (words bytes : List ℕ) (m : Machine) (ws : List ℕ) : Type 0 where
-  pub machine : machine_after m (read_image bytes ws) ≡ record { machine = fresh_of l; number = 0 }
+  pub number : number_of (read_image bytes ws) ≡ 0
+  pub machine : machine_after m (read_image bytes ws) ≡ fresh_of l
   pub memory : memory_after ws (read_image bytes ws) ≡ take (words_in l.lengths) words ++ drop (words_in l.lengths) ws
 
 -- the bytes that are written of a machine are read back as its fresh machine with the same words, whatever was there before
@@ -37,12 +38,12 @@ WriteThenRead =
 abbrev pub ReadThenWrite : Type 0
 ReadThenWrite =
     (bytes ws : List ℕ) (i : Image) → read_image bytes ws ≡ ok i → (m : Machine) (output : List ℕ) → Below 256 bytes → length bytes ≤ length output
-    → write_image (machine_after m (read_image bytes ws)).machine (memory_after ws (read_image bytes ws)) output ≡ ok bytes
+    → write_image (machine_after m (read_image bytes ws)) (memory_after ws (read_image bytes ws)) output ≡ ok bytes
 
 -- the machine of an accepted image is sound
 abbrev pub ReadSound : Type 0
 ReadSound =
-    (bytes ws : List ℕ) (i : Image) → read_image bytes ws ≡ ok i → (m : Machine) → sound_test (machine_after m (read_image bytes ws)).machine ≡ true
+    (bytes ws : List ℕ) (i : Image) → read_image bytes ws ≡ ok i → (m : Machine) → sound_test (machine_after m (read_image bytes ws)) ≡ true
 
 -- an accepted image has at most 33,080 bytes
 abbrev pub ReadLongest : Type 0
