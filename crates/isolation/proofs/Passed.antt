@@ -1,13 +1,16 @@
 -- The live check of a word by the source that is passed on for it.
-use Rattle.std.specs.Prelude.{if◌then◌else◌}
+use Rattle.std.specs.Prelude.{Result, Ok, Err, is_ok, if◌then◌else◌}
 use Prim.Native.Nat.{ℕ}
 use native.Mathlib.Omega.{arith}
 use mathlib.Core.Bool.{Bool, true, false, not}
 use mathlib.Core.List.{List}
-use mathlib.Core.Path.{◌≡◌, refl}
+use mathlib.Core.Path.{◌≡◌, refl, sym}
 use lib.Dec.{eqb}
 use Rattle.words.specs.Answer.{Answer, refuse, ok, ◌>>=◌}
 use Rattle.words.specs.Numbers.{source_fails}
+use Rattle.words.specs.Refusal.{status}
+use Rattle.words.specs.declared.refusal.Refusal.{Refusal}
+use Rattle.words.proofs.Results.{number-ne_0}
 use Rattle.state.specs.declared.record.Capability.{Capability}
 use Rattle.state.specs.declared.record.Frame.{Frame}
 use Rattle.capabilities.specs.Search.{covers_of}
@@ -17,6 +20,11 @@ use Rattle.references.specs.Static.{static_of}
 use Rattle.references.specs.Live.{live_match, live_of, passed_of}
 use Rattle.references.proofs.Passes.{match-refuses}
 use Rattle.references.proofs.Sources.{live-passed}
+
+-- a result passes where its number is 0
+pub passes : {A : Type 0} (r : Result A Refusal) → is_ok r ≡ eqb (status r) 0
+passes (Ok a) = refl
+passes (Err e) = sym (number-ne_0 e)
 
 module _ (lengths rights : List ℕ) (depth : ℕ) (f : Frame) (a : Access) (s w : ℕ) where
   abbrev passed : Answer ℕ
