@@ -22,8 +22,8 @@ pub returns-in_err-static_check : goal.returns-in_err-static_check
 returns-in_err-static_check c =
     let a = c.args in
     let shut = way-refused a.layout.now.lengths a.layout.now.gates a.layout.now.rights a.domain a.depth a.p c.if-p.false
-        (λ z. status-err _ c.if-is_ok.ensures.value (c.static_check.ensures ∙ z))
-        (λ z. number-some _ (c.in_err-static_check.ensures ∙ z)) in
+    (λ z. status-err _ c.if-is_ok.ensures.value (c.static_check.ensures ∙ z))
+    (λ z. number-some _ (c.in_err-static_check.ensures ∙ z)) in
     ap call_answer (handed_on c.from_residual.result _ c.from_residual.ensures.1) ∙ simp (c.in_err-static_check.ensures) (sym shut)
 
 -- with G the rest of the way is the gate and the free frame
