@@ -30,7 +30,7 @@ pub fn report(image: &[u8]) -> Printed
     let mut bytes = [0u8; 96];
     let at = put_end(&mut bytes, end);
     match end {
-        End::Refused(n) => Printed { bytes, length: at },
+        End::Refused(_) => Printed { bytes, length: at },
         other => {
             let next = put_rest(&mut bytes, at, o.count, registers);
             Printed {

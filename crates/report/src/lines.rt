@@ -30,10 +30,10 @@ pub fn put_end(output: &mut [u8], end: End) -> usize
 {
     match end {
         End::Halted => put_text(output, 0, b"end halted\n"),
-        End::Faulted(n) => put_line(output, 0, b"end fault ", n as u32),
+        End::Faulted(refusal) => put_line(output, 0, b"end fault ", refusal.number() as u32),
         End::Spent => put_text(output, 0, b"end spent\n"),
         End::Crossed => put_text(output, 0, b"end crossed\n"),
-        End::Refused(n) => put_line(output, 0, b"refused ", n as u32),
+        End::Refused(refusal) => put_line(output, 0, b"refused ", refusal.number() as u32),
     }
 }
 

@@ -5,6 +5,7 @@ use native.Mathlib.Nat.{zero-add}
 use mathlib.Core.List.{List}
 use mathlib.Core.Path.{◌≡◌, ◌∙◌}
 use lib.ListN.{length}
+use Rattle.words.specs.Refusal.{number}
 use Rattle.image_format.specs.Output.{written}
 use Rattle.text.specs.Text.{text, labelled, line}
 use Rattle.text.proofs.Decimals.{line-most}
@@ -22,8 +23,8 @@ returns-in-Halted c =
 
 pub returns-in-Faulted : goal.returns-in-Faulted
 returns-in-Faulted c =
-    let n = c.in-Faulted.n in
-    let p = at-start _ _ _ (line (labelled (text "end fault ") n)) (omega (arith, line-most (text "end fault ") n (omega arith))) c.requires (c.put_line.ensures.value, c.put_line.ensures.output_after) in
+    let n = number c.in-Faulted.refusal in
+    let p = at-start _ _ _ (line (labelled (text "end fault ") n)) (omega (arith, line-most (text "end fault ") n (omega arith))) c.requires (rw c.number.ensures at c.put_line.ensures.value, rw c.number.ensures at c.put_line.ensures.output_after) in
     rw c.in-Faulted.is (record { value = p.0; output_after = p.1.0; upper_bound = p.1.1 })
 
 pub returns-in-Spent : goal.returns-in-Spent
@@ -38,6 +39,6 @@ returns-in-Crossed c =
 
 pub returns-in-Refused : goal.returns-in-Refused
 returns-in-Refused c =
-    let n = c.in-Refused.n in
-    let p = at-start _ _ _ (line (labelled (text "refused ") n)) (omega (arith, line-most (text "refused ") n (omega arith))) c.requires (c.put_line-in-Refused.ensures.value, c.put_line-in-Refused.ensures.output_after) in
+    let n = number c.in-Refused.refusal in
+    let p = at-start _ _ _ (line (labelled (text "refused ") n)) (omega (arith, line-most (text "refused ") n (omega arith))) c.requires (rw c.number-in-Refused.ensures at c.put_line-in-Refused.ensures.value, rw c.number-in-Refused.ensures at c.put_line-in-Refused.ensures.output_after) in
     rw c.in-Refused.is (record { value = p.0; output_after = p.1.0; upper_bound = p.1.1 })
