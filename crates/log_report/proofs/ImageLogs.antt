@@ -3,10 +3,13 @@ use Prim.Native.Nat.{ℕ, ◌≤◌}
 use native.Mathlib.Omega.{arith}
 use mathlib.Core.Bool.{true}
 use mathlib.Core.List.{List}
-use mathlib.Core.Path.{◌≡◌, refl, ap, ◌∙◌, subst}
+use mathlib.Core.Path.{◌≡◌, refl, sym, ap, ◌∙◌, subst}
 use borrow.Author.Tests.{le-leb}
 use lib.ListN.{length, replicate}
-use Rattle.words.specs.Answer.{Answer, refuse, ok, ◌>>=◌}
+use Rattle.words.specs.Answer.{Answer, refuse, ok, ◌>>=◌, number_of}
+use Rattle.words.specs.Refusal.{number}
+use Rattle.words.specs.declared.refusal.Refusal.{Refusal}
+use Rattle.words.proofs.Results.{number-some}
 use Rattle.image_format.proofs.Answers.{no_value, the_value}
 use Rattle.state.specs.declared.record.Machine.{Machine}
 use Rattle.soundness.specs.Sound.{sound_test}
@@ -14,7 +17,6 @@ use Rattle.fresh.specs.Fresh.{fresh_of}
 use Rattle.runs.specs.Run.{judged}
 use Rattle.image_format.specs.Image.{Image, image_of, layout_of}
 use Rattle.image_reader.specs.Reader.{read_image, machine_after, memory_after}
-use Rattle.image_reader.specs.declared.ReadAnswer.{ReadAnswer}
 use Rattle.roundtrips.proofs.Good.{All}
 use Rattle.roundtrips.proofs.AcceptedSound.{accepted-sound}
 use Rattle.crossing_log.specs.Crossings.{Crossing, crossings_of}
@@ -40,7 +42,7 @@ abbrev logged_image : Image → Answer (List Crossing)
 logged_image i = ok (crossings_of 1000 (fresh_of (layout_of i)) (memory_of i))
 
 -- the totals, and the log, of what a call gave
-abbrev Kept : List ℕ → Answer (List Crossing) → Totals → List ℕ → Type 0
+abbrev Kept : List ℕ → Answer (List Crossing) → Answer Totals → List ℕ → Type 0
 Kept log a t out = (t ≡ totals_of a) × (out ≡ log_with log a)
 
 logged-call : (m : Machine) (words log : List ℕ) → sound_test m ≡ true → 8192 ≤ length words → 6000 ≤ length log → log_call m words log ≡ logged_of m words log
@@ -52,35 +54,32 @@ module _ (bytes log : List ℕ) where
   unfolding read_image
   read-zeros = refl
 
-  refused-by : (a : Answer Image) (n : ℕ) → n ≡ (machine_after empty_machine a).number → (n ≡ 0 → ⊥) → Kept log (a >>= logged_image) (record { number = n; calls = 0; returns = 0 }) log
-  unfolding machine_after
-  refused-by (refuse k) n e h = (ap (λ (j : ℕ). record { number = j; calls = 0; returns = 0 }) e, refl)
-  refused-by (ok i) n e h = absurd (h e)
+  refused-by : (a : Answer Image) (r : Refusal) → number r ≡ number_of a → Kept log (a >>= logged_image) (refuse (number r)) log
+  refused-by (refuse k) r e = (ap refuse e, refl)
+  refused-by (ok i) r e = absurd (number-some r e)
 
   -- a refused image
-  pub image-refused : (r : ReadAnswer) → r ≡ machine_after empty_machine (read_image bytes zeros) → (r.number ≡ 0 → ⊥)
-      → Kept log (image_crossings bytes) (record { number = r.number; calls = 0; returns = 0 }) log
+  pub image-refused : (r : Refusal) → number r ≡ number_of (read_image bytes zeros) → Kept log (image_crossings bytes) (refuse (number r)) log
   unfolding image_crossings
-  image-refused r e h = refused-by (image_of bytes) r.number (ap (λ (x : ReadAnswer). x.number) e ∙ ap (λ (a : Answer Image). (machine_after empty_machine a).number) read-zeros) h
+  image-refused r e = refused-by (image_of bytes) r (rw read-zeros at e)
 
-  passed-by : (a : Answer Image) → image_of bytes ≡ a → (l : Logged) (now out : List ℕ) → 6000 ≤ length log → 8192 ≤ length (memory_after zeros a) → (machine_after empty_machine a).number ≡ 0
-      → logged_answer l now out ≡ log_call (machine_after empty_machine a).machine (memory_after zeros a) log
-      → Kept log (a >>= logged_image) (record { number = 0; calls = l.calls; returns = l.returns }) out
+  passed-by : (a : Answer Image) → image_of bytes ≡ a → (l : Logged) (now out : List ℕ) → 6000 ≤ length log → 8192 ≤ length (memory_after zeros a) → 0 ≡ number_of a
+      → logged_answer l now out ≡ log_call (machine_after empty_machine a) (memory_after zeros a) log
+      → Kept log (a >>= logged_image) (ok (record { calls = l.calls; returns = l.returns })) out
   unfolding machine_after logged_of
   passed-by (refuse n) e l now out h w z q = absurd (let f = image-number bytes n e in omega (arith, f.0, z))
   passed-by (ok i) e l now out h w z q =
       let p = q ∙ logged-call (fresh_of (layout_of i)) (memory_of i) log (accepted-sound bytes i e) w h in
-      ((λ j. record { number = 0; calls = (p j).calls; returns = (p j).returns }), ap (λ (x : LoggedRun). x.log) p)
+      ((λ j. ok (record { calls = (p j).calls; returns = (p j).returns })), ap (λ (x : LoggedRun). x.log) p)
 
   -- an accepted image
-  pub image-logged : (r : ReadAnswer) (words : List ℕ) (l : Logged) (now out : List ℕ) → r ≡ machine_after empty_machine (read_image bytes zeros) → words ≡ memory_after zeros (read_image bytes zeros)
-      → length words ≡ 8192 → 6000 ≤ length log → r.number ≡ 0 → logged_answer l now out ≡ log_call r.machine words log
-      → Kept log (image_crossings bytes) (record { number = 0; calls = l.calls; returns = l.returns }) out
+  pub image-logged : (m : Machine) (words : List ℕ) (l : Logged) (now out : List ℕ) → m ≡ machine_after empty_machine (read_image bytes zeros) → words ≡ memory_after zeros (read_image bytes zeros)
+      → length words ≡ 8192 → 6000 ≤ length log → 0 ≡ number_of (read_image bytes zeros) → logged_answer l now out ≡ log_call m words log
+      → Kept log (image_crossings bytes) (ok (record { calls = l.calls; returns = l.returns })) out
   unfolding image_crossings
-  image-logged r words l now out e w n h z q =
-      let a = rw (e, read-zeros) at z in
+  image-logged m words l now out e w n h z q =
       let b = rw (e, w, read-zeros) at q in
-      passed-by (image_of bytes) refl l now out h (omega (arith, rw (w, read-zeros) at n)) a b
+      passed-by (image_of bytes) refl l now out h (omega (arith, rw (w, read-zeros) at n)) (rw read-zeros at z) b
 
 -- its crossings are few enough and small enough for the log
 pub record ImageLogged (cs : List Crossing) : Type 0 where
@@ -98,11 +97,7 @@ pub image-few : (bytes : List ℕ) (cs : List Crossing) → image_crossings byte
 unfolding image_crossings
 image-few bytes cs q = few-by bytes (image_of bytes) refl cs q
 
--- what passes has no number
-totals-by : (bytes : List ℕ) (a : Answer Image) → image_of bytes ≡ a → (totals_of (a >>= logged_image)).number ≡ 0 → Passed (a >>= logged_image)
-totals-by bytes (refuse n) e z = absurd (let f = image-number bytes n e in omega (arith, f.0, z))
-totals-by bytes (ok i) e z = record { value = crossings_of 1000 (fresh_of (layout_of i)) (memory_of i); is = refl }
-
-pub image-passed : (bytes : List ℕ) → (totals_of (image_crossings bytes)).number ≡ 0 → Passed (image_crossings bytes)
-unfolding image_crossings
-image-passed bytes z = totals-by bytes (image_of bytes) refl z
+-- what has totals has passed
+pub totals-passed : (a : Answer (List Crossing)) (t : Totals) → ok t ≡ totals_of a → Passed a
+totals-passed (refuse n) t e = no_value (sym e)
+totals-passed (ok cs) t e = record { value = cs; is = refl }

@@ -7,10 +7,14 @@ use Rattle.crossing_log.specs.Crossings.{call, return, Crossing}
 use Rattle.crossing_log.specs.Log.{crossing_bytes, of_kind}
 use Rattle.log_report.specs.declared.image_log.Totals.{Totals}
 
--- the totals of an image's crossings, or the refusal with none
-abbrev pub totals_of : Answer (List Crossing) → Totals
-totals_of (refuse n) = record { number = n; calls = 0; returns = 0 }
-totals_of (ok cs) = record { number = 0; calls = of_kind call cs; returns = of_kind return cs }
+-- how many calls and returns there are
+abbrev pub counted : List Crossing → Totals
+counted cs = record { calls = of_kind call cs; returns = of_kind return cs }
+
+-- the totals of an image's crossings, or the refusal
+abbrev pub totals_of : Answer (List Crossing) → Answer Totals
+totals_of (refuse n) = refuse n
+totals_of (ok cs) = ok (counted cs)
 
 -- the log with an image's crossings; a refusal leaves it
 abbrev pub log_with : List ℕ → Answer (List Crossing) → List ℕ

@@ -25,13 +25,16 @@ pub fn log_report(image: &[u8]) -> PrintedLog
     ensures length_in_bounds { (result.length ≤ length result.bytes) × (result.length ≡ length (take result.length result.bytes)) }
 {
     let mut log = [0u8; 6000];
-    let t = log_image(image, &mut log);
     let mut bytes = [0u8; 25026];
-    if t.number != 0 {
-        let end = put_line(&mut bytes, 0, b"refused ", t.number as u32);
-        return PrintedLog { bytes, length: end };
+    match log_image(image, &mut log) {
+        Err(refusal) => {
+            let end = put_line(&mut bytes, 0, b"refused ", refusal.number() as u32);
+            PrintedLog { bytes, length: end }
+        }
+        Ok(t) => {
+            let at = put_crossings(&mut bytes, &log, t.calls + t.returns);
+            let end = put_totals(&mut bytes, at, t.calls, t.returns);
+            PrintedLog { bytes, length: end }
+        }
     }
-    let at = put_crossings(&mut bytes, &log, t.calls + t.returns);
-    let end = put_totals(&mut bytes, at, t.calls, t.returns);
-    PrintedLog { bytes, length: end }
 }

@@ -44,10 +44,8 @@ pub fn put_crossings(output: &mut [u8], log: &[u8], count: u16) -> usize
     ensures upper_bound { result ≤ count * 25 }
 {
     let mut at = 0usize;
-    let mut i = 0usize;
-    while i < count as usize {
+    for i in 0..count as usize {
         at = put_crossing(output, at, log, i * 6);
-        i += 1;
     }
     at
 }

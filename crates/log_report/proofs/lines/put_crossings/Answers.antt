@@ -1,5 +1,4 @@
 -- `log_report::lines::put_crossings` meets its contract.
-use Prim.Native.Nat.{◌-◌}
 use native.Mathlib.Omega.{arith}
 use native.Mathlib.Nat.{zero-add}
 use mathlib.Core.Path.{◌∙◌}
