@@ -4,10 +4,13 @@ use Prim.Native.Nat.{ℕ}
 use native.Mathlib.Omega.{arith}
 use mathlib.Core.Bool.{Bool, true, false, ◌&&◌}
 use mathlib.Core.List.{List}
-use mathlib.Core.Path.{◌≡◌, refl, sym, ap}
+use mathlib.Core.Path.{◌≡◌, refl, sym, ap, ◌∙◌}
 use lib.Dec.{leb}
 use lib.ListN.{length}
 use Rattle.words.specs.Answer.{Answer, refuse, ok, ◌>>=◌, ◌>>◌, require, number_of}
+use Rattle.words.specs.Refusal.{number}
+use Rattle.words.specs.declared.refusal.Refusal.{Refusal}
+use Rattle.words.proofs.Results.{number-some}
 use Rattle.state.specs.declared.record.Machine.{Machine}
 use Rattle.snapshot_format.specs.RecordForm.{record_form, record_in, held}
 use Rattle.snapshot_reader.specs.Formed.{formed, record_or}
@@ -19,24 +22,24 @@ use Rattle.held_runs.specs.Statements.{HeldOpened}
 abbrev judged : Bool → Bool → Answer (Unit {0})
 judged long proper = require long 8 >> require proper 9
 
-refusal : (long proper : Bool) (m : Machine) (n : ℕ) → n ≡ number_of (judged long proper) → (n ≡ 0 → ⊥) → (judged long proper >> ok m) ≡ refuse n
-refusal true true m n e h = absurd (h e)
-refusal true false m n e h = ap refuse (sym e)
-refusal false proper m n e h = ap refuse (sym e)
+refusal : (long proper : Bool) (m : Machine) (e : Refusal) → number e ≡ number_of (judged long proper) → (judged long proper >> ok m) ≡ refuse (number e)
+refusal true true m e q = absurd (number-some e q)
+refusal true false m e q = ap refuse (sym q)
+refusal false proper m e q = ap refuse (sym q)
 
-taken : (long proper : Bool) (m none : Machine) (n : ℕ) → n ≡ number_of (judged long proper) → n ≡ 0 → (judged long proper >> ok m) ≡ ok (if long then m else none)
-taken true true m none n e h = refl
-taken true false m none n e h = absurd (omega arith)
-taken false proper m none n e h = absurd (omega arith)
+taken : (long proper : Bool) (m none : Machine) → 0 ≡ number_of (judged long proper) → (judged long proper >> ok m) ≡ ok (if long then m else none)
+taken true true m none q = refl
+taken true false m none q = absurd (omega arith)
+taken false proper m none q = absurd (omega arith)
 
-module _ (bytes : List ℕ) (n : ℕ) (e : n ≡ number_of (formed bytes)) where
-  pub opened-refused : (n ≡ 0 → ⊥) → opened bytes ≡ refuse n
+module _ (bytes : List ℕ) where
+  pub opened-refused : (e : Refusal) → number e ≡ number_of (formed bytes) → opened bytes ≡ refuse (number e)
   unfolding opened formed
-  opened-refused h = refusal (leb 1079 (length bytes)) (record_form.proper bytes 0) (record_in bytes) n e h
+  opened-refused e q = refusal (leb 1079 (length bytes)) (record_form.proper bytes 0) (record_in bytes) e q
 
-  pub opened-ok : n ≡ 0 → opened bytes ≡ ok (record_or bytes)
+  pub opened-ok : (m : Machine) → 0 ≡ number_of (formed bytes) → m ≡ record_or bytes → opened bytes ≡ ok m
   unfolding opened formed record_or
-  opened-ok h = taken (leb 1079 (length bytes)) (record_form.proper bytes 0) (record_in bytes) _ n e h
+  opened-ok m q is = taken (leb 1079 (length bytes)) (record_form.proper bytes 0) (record_in bytes) _ q ∙ ap ok (sym is)
 
 -- a record is judged on its bytes and then by itself, or both at once
 at_once : (long proper : Bool) (test : Machine → Bool) (m : Machine)

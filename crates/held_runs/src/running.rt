@@ -1,6 +1,8 @@
 // Runs and stretches of the record that bytes hold.
 ghost use Rattle.std.specs.Prelude.{◌≡◌, ◌+◌};
+ghost use Rattle.words.specs.Refusal.{status};
 ghost use Rattle.runs.specs.Run.{run_from, judged, called_of, end_answer};
+ghost use Rattle.soundness.specs.Sound.{frames_test, sound_test};
 ghost use Rattle.held_runs.specs.Private.{UnusedFree};
 ghost use Rattle.held_runs.specs.Runs.{end_code, ended_bytes, ran_on, ran_code, ran_bytes, ran_words};
 
@@ -12,6 +14,7 @@ use snapshot_writer::put_record;
 use soundness::frames::frame_sound;
 use soundness::registers::{pointers_sound, registers_sound};
 use state::record::Machine;
+use words::refusal::Refusal;
 
 // How a run ended, and its count, as one number.
 pub fn code(count: u16, end: End) -> u32
@@ -19,10 +22,10 @@ pub fn code(count: u16, end: End) -> u32
 {
     match end {
         End::Halted => count as u32,
-        End::Faulted(n) => 0x1000000 + n as u32 * 0x10000 + count as u32,
+        End::Faulted(refusal) => 0x1000000 + refusal.number() as u32 * 0x10000 + count as u32,
         End::Spent => 0x2000000 + count as u32,
         End::Crossed => 0x3000000 + count as u32,
-        End::Refused(n) => 0x4000000 + n as u32 * 0x10000 + count as u32,
+        End::Refused(refusal) => 0x4000000 + refusal.number() as u32 * 0x10000 + count as u32,
     }
 }
 
@@ -31,45 +34,46 @@ pub fn keep(bytes: &mut [u8], m: Machine, end: End)
     ensures { bytes.new ≡ ended_bytes bytes.old m (end_answer end) }
 {
     match end {
-        End::Refused(n) => {}
+        End::Refused(refusal) => {}
         other => put_record(m, bytes),
     }
 }
 
-// What is judged first, as every call on a machine does; frames that are not in use are known to be zeros.
-fn judge(m: Machine, words: &[u32]) -> u8
-    requires { UnusedFree m }
-    ensures { result ≡ judged m words.now }
+// Whether the frames are sound; those that are not in use are known to be zeros.
+fn frames_sound(m: &Machine) -> bool
+    requires { UnusedFree m.now }
+    ensures { result ≡ frames_test m.now.layout.domains m.now.depth m.now.frames }
 {
-    let layout = m.layout;
-    if !layout_sound(layout) {
-        return 9;
-    }
-    if !registers_sound(layout.domains, m.registers) {
-        return 9;
-    }
-    let pointers = m.pointers;
-    if !pointers_sound(pointers) {
-        return 9;
-    }
+    let domains = m.layout.domains;
     let used = m.depth as usize;
-    let mut i = 0usize;
-    while i < used {
-        let f = m.frames[i];
-        if !frame_sound(layout.domains, f) {
-            return 9;
-        }
-        i += 1;
-    }
-    let frames = m.frames;
-    let recent = m.recent;
-    if !recent::registers::registers_sound(m.depth, frames, recent) {
-        return 9;
+    (0..used).all(|i| frame_sound(domains, m.frames[i]))
+}
+
+// Whether a record is sound whose frames that are not in use are zeros.
+#[tactic(auto, unfolding(soundness::specs::Sound::sound_test))]
+fn sound(m: &Machine) -> bool
+    requires { UnusedFree m.now }
+    ensures { result ≡ sound_test m.now }
+{
+    layout_sound(m.layout)
+        && registers_sound(m.layout.domains, m.registers)
+        && pointers_sound(m.pointers)
+        && frames_sound(m)
+        && recent::registers::registers_sound(m.depth, m.frames, m.recent)
+}
+
+// What is judged first, as every call on a machine does.
+fn judge(m: &Machine, words: &[u32]) -> Result<(), Refusal>
+    requires { UnusedFree m.now }
+    ensures { status result ≡ judged m.now words.now }
+{
+    if !sound(m) {
+        return Err(Refusal::NotSound);
     }
     if words.len() < 8192 {
-        return 7;
+        return Err(Refusal::MemoryTooShort);
     }
-    0
+    Ok(())
 }
 
 // At most limit instructions, or a stretch, of the record that bytes hold.
@@ -78,14 +82,12 @@ pub fn run_held(bytes: &mut [u8], words: &mut [u32], limit: u16, stretch: bool) 
     ensures bytes { bytes.new ≡ ran_bytes bytes.old (ran_on (called_of (run_from stretch limit 0)) bytes.old words.old) }
     ensures words { words.new ≡ ran_words words.old (ran_on (called_of (run_from stretch limit 0)) bytes.old words.old) }
 {
-    let number = form_number(bytes);
-    if number != 0 {
-        return 0x4000000 + number as u32 * 0x10000;
+    if let Err(refusal) = form_number(bytes) {
+        return code(0, End::Refused(refusal));
     }
     let m = record_or_empty(bytes);
-    let refusal = judge(m, words);
-    if refusal != 0 {
-        return 0x4000000 + refusal as u32 * 0x10000;
+    if let Err(refusal) = judge(&m, words) {
+        return code(0, End::Refused(refusal));
     }
     let o = run_judged(m, words, limit, stretch);
     let end = o.end;

@@ -3,7 +3,7 @@ ghost use Rattle.std.specs.Prelude.{◌≡◌};
 ghost use Rattle.processor.specs.Calls.{step_call};
 ghost use Rattle.held_runs.specs.Runs.{stepped_on, step_code, step_bytes, step_words};
 
-use processor::step;
+use processor::{Pace, step};
 use snapshot_reader::{form_number, record_or_empty};
 use snapshot_writer::put_record;
 
@@ -13,16 +13,19 @@ pub fn step_held(bytes: &mut [u8], words: &mut [u32]) -> u16
     ensures bytes { bytes.new ≡ step_bytes bytes.old (stepped_on step_call bytes.old words.old) }
     ensures words { words.new ≡ step_words words.old (stepped_on step_call bytes.old words.old) }
 {
-    let number = form_number(bytes);
-    if number != 0 {
-        return number as u16;
+    if let Err(refusal) = form_number(bytes) {
+        return refusal.number() as u16;
     }
     let m = record_or_empty(bytes);
     let s = step(m, words);
-    let fault = s.number;
-    if fault != 0 {
-        return fault as u16;
+    match s.pace {
+        Err(refusal) => refusal.number() as u16,
+        Ok(pace) => {
+            put_record(s.machine, bytes);
+            match pace {
+                Pace::GoesOn => 0,
+                Pace::Halts => 256,
+            }
+        }
     }
-    put_record(s.machine, bytes);
-    if s.halted { 256 } else { 0 }
 }

@@ -15,7 +15,7 @@ pub returns-in-Halted : goal.returns-in-Halted
 returns-in-Halted c = at-halt _ c.in-Halted.is
 
 pub returns-in-Faulted : goal.returns-in-Faulted
-returns-in-Faulted c = simp c.in-Faulted.is refl
+returns-in-Faulted c = simp (c.in-Faulted.is, c.number.ensures) refl
 
 pub returns-in-Spent : goal.returns-in-Spent
 returns-in-Spent c = simp c.in-Spent.is refl
@@ -24,4 +24,4 @@ pub returns-in-Crossed : goal.returns-in-Crossed
 returns-in-Crossed c = simp c.in-Crossed.is refl
 
 pub returns-in-Refused : goal.returns-in-Refused
-returns-in-Refused c = simp c.in-Refused.is refl
+returns-in-Refused c = simp (c.in-Refused.is, c.number-in-Refused.ensures) refl
