@@ -1,7 +1,8 @@
 -- What a logged run gives, as a number, bytes, words, log and totals.
 use Prim.Native.Nat.{ℕ, ◌+◌}
+use native.Mathlib.Omega.{arith}
 use mathlib.Core.List.{List}
-use mathlib.Core.Path.{◌≡◌, refl}
+use mathlib.Core.Path.{◌≡◌, refl, ◌∙◌}
 use Rattle.words.specs.Answer.{refuse, ok}
 use Rattle.state.specs.declared.record.Machine.{Machine}
 use Rattle.runs.specs.Run.{refused, end_answer}
@@ -18,9 +19,11 @@ module _ (bytes words log : List ℕ) (calls returns : ℕ) where
       (code ≡ ran_code (run_in (logged_on bytes words log))) × ((after ≡ ran_bytes bytes (run_in (logged_on bytes words log))) × ((memory ≡ ran_words words (run_in (logged_on bytes words log)))
       × ((records ≡ given (λ l. l.log) log (logged_on bytes words log)) × ((called ≡ total_after (λ l. l.calls) calls (logged_on bytes words log)) × (returned ≡ total_after (λ l. l.returns) returns (logged_on bytes words log))))))
 
-  pub log-refused : (n : ℕ) → opened bytes ≡ refuse n → Logs (end_code (refused n)) bytes words log calls returns
+  pub log-refused : (n code : ℕ) → opened bytes ≡ refuse n → code ≡ end_code (refused n) + 0 → Logs code bytes words log calls returns
   unfolding logged_on
-  log-refused n e = rw e (refl, (refl, (refl, (refl, (refl, refl)))))
+  log-refused n code e c =
+      let k : end_code (refused n) + 0 ≡ end_code (refused n) = omega arith in
+      rw e (c ∙ k, (refl, (refl, (refl, (refl, refl)))))
 
   ended : (m : Machine) (l : LoggedRun) → opened bytes ≡ ok m → l ≡ log_call m words log
       → Logs (end_code l.run.ending + l.run.count) (ended_bytes bytes l.run.machine l.run.ending) l.run.words l.log (ended_with calls l.calls l.run.ending) (ended_with returns l.returns l.run.ending)

@@ -18,7 +18,7 @@ fn keep_total(place: &mut u16, total: u16, end: End)
     ensures { place.new ≡ ended_with place.old total (end_answer end) }
 {
     match end {
-        End::Refused(n) => {}
+        End::Refused(refusal) => {}
         other => *place = total,
     }
 }
@@ -38,9 +38,8 @@ pub fn log_held(
     ensures calls { calls.new ≡ total_after (λ l. l.calls) calls.old (logged_on bytes.old words.old log.old) }
     ensures returns { returns.new ≡ total_after (λ l. l.returns) returns.old (logged_on bytes.old words.old log.old) }
 {
-    let number = form_number(bytes);
-    if number != 0 {
-        return 0x4000000 + number as u32 * 0x10000;
+    if let Err(refusal) = form_number(bytes) {
+        return code(0, End::Refused(refusal));
     }
     let m = record_or_empty(bytes);
     let l = run_logged(m, words, log);

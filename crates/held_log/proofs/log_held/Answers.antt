@@ -1,20 +1,16 @@
 -- `held_log::log_held` meets its contract.
-use mathlib.Core.Path.{◌≡◌, sym, ap, ◌∙◌}
-use Rattle.words.specs.Answer.{ok}
-use Rattle.held_runs.specs.Opened.{opened}
 use Rattle.held_runs.proofs.OpenLaws.{opened-refused, opened-ok}
 use Rattle.held_log.proofs.LogLaws.{log-refused, log-ended}
 use Rattle.held_log.proofs.log_held.Goals as goal
 
-pub returns-then-number-ne0 : goal.returns-then-number-ne0
-returns-then-number-ne0 c =
+pub returns-in-Err : goal.returns-in-Err
+returns-in-Err c =
     let a = c.args in
-    let e = log-refused a.bytes.now a.words.now a.log.now a.calls.now a.returns.now c.form_number-number.result (opened-refused _ _ c.form_number-number.ensures c.if-number-ne0.true) in
+    let e = log-refused a.bytes.now a.words.now a.log.now a.calls.now a.returns.now _ _ (opened-refused _ _ c.in-Err.ensures) c.code.ensures in
     record { code = e.0; bytes = e.1.0; words = e.1.1.0; log = e.1.1.1.0; calls = e.1.1.1.1.0; returns = e.1.1.1.1.1 }
 
 pub returns : goal.returns
 returns c =
-    let record_is : opened c.args.bytes.now ≡ ok c.record_or_empty-m.result = opened-ok c.args.bytes.now _ c.form_number-number.ensures c.if-number-ne0.false ∙ ap ok (sym c.record_or_empty-m.ensures) in
     let a = c.args in
-    let e = log-ended a.bytes.now a.words.now a.log.now a.calls.now a.returns.now c.record_or_empty-m.result c.run_logged-l.result _ _ _ _ _ _ record_is c.run_logged-l.ensures c.code.ensures c.keep.ensures c.keep_total.ensures c.keep_total-2.ensures in
+    let e = log-ended a.bytes.now a.words.now a.log.now a.calls.now a.returns.now c.record_or_empty-m.result c.run_logged-l.result _ _ _ _ _ _ (opened-ok _ _ c.in_default.ensures c.record_or_empty-m.ensures) c.run_logged-l.ensures c.code-2.ensures c.keep.ensures c.keep_total.ensures c.keep_total-2.ensures in
     record { code = e.0; bytes = e.1.0; words = e.1.1.0; log = e.1.1.1.0; calls = e.1.1.1.1.0; returns = e.1.1.1.1.1 }
