@@ -1,6 +1,6 @@
 // An image, run in a memory of its own with a log.
 ghost use Rattle.std.specs.Prelude.{◌≡◌, ◌≤◌, length};
-ghost use Rattle.words.specs.Refusal.{answer};
+ghost use Rattle.words.specs.Refusal.{answer_of};
 ghost use Rattle.log_report.specs.LogText.{image_crossings};
 ghost use Rattle.log_report.specs.Private.{totals_of, log_with};
 
@@ -19,7 +19,7 @@ pub struct Totals {
 // At most 1,000 instructions of an image; its crossings are put into the log. Refused, the log is as it was.
 pub fn log_image(image: &[u8], log: &mut [u8]) -> Result<Totals, Refusal>
     requires { 6000 ≤ length log.old }
-    ensures value { answer result ≡ totals_of (image_crossings image.now) }
+    ensures value { answer_of result ≡ totals_of (image_crossings image.now) }
     ensures log_after { log.new ≡ log_with log.old (image_crossings image.now) }
 {
     let mut words = [0u32; 8192];

@@ -3,7 +3,7 @@ use Prim.Native.Nat.{ℕ}
 use native.Mathlib.Omega.{arith}
 use mathlib.Core.Path.{◌≡◌, ap, ◌∙◌}
 use lib.ListN.{replicate, length-replicate}
-use Rattle.words.specs.Refusal.{answer}
+use Rattle.words.specs.Refusal.{answer_of}
 use Rattle.words.proofs.Results.{handed_on}
 use Rattle.image_reader.specs.Reader.{read_image, machine_after}
 use Rattle.entry.specs.ImageRun.{empty_machine}
@@ -18,7 +18,7 @@ read_is c = rw (c.fresh-machine.ensures, c.empty_layout.ensures) at c.read.ensur
 pub returns-in_err-read : goal.returns-in_err-read
 returns-in_err-read c =
     let p = image-refused c.args.image.now c.args.log.now c.in_err-read.field-0.0 c.in_err-read.ensures.value in
-    record { value = ap answer (handed_on c.from_residual.result _ c.from_residual.ensures.1) ∙ p.0; log_after = p.1 }
+    record { value = ap answer_of (handed_on c.from_residual.result _ c.from_residual.ensures.1) ∙ p.0; log_after = p.1 }
 
 pub returns : goal.returns
 returns c =
