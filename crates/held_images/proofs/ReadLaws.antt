@@ -3,18 +3,20 @@ use Prim.Native.Nat.{ℕ, ◌<◌, ◌≤◌}
 use native.Mathlib.Omega.{arith}
 use mathlib.Core.Bool.{Bool, true, false}
 use mathlib.Core.List.{List}
-use mathlib.Core.Path.{◌≡◌, refl, sym, ap, ◌∙◌}
+use mathlib.Core.Path.{◌≡◌, refl, ap, ◌∙◌}
 use borrow.Author.Tests.{le-leb, lt-leb}
 use lib.Dec.{leb}
 use lib.ListN.{length}
 use Rattle.words.specs.Answer.{Answer, refuse, ok, ◌>>◌, require, number_of}
+use Rattle.words.specs.Refusal.{number}
+use Rattle.words.specs.declared.refusal.Refusal.{Refusal}
+use Rattle.words.proofs.Results.{number-some}
 use Rattle.state.specs.declared.record.Machine.{Machine}
 use Rattle.fresh.specs.Fresh.{fresh_of}
 use Rattle.soundness.specs.Sound.{sound_test}
 use Rattle.snapshot_format.specs.RecordForm.{with_record}
 use Rattle.image_format.specs.Image.{Image, image_of}
 use Rattle.image_reader.specs.Reader.{read_image, machine_after, memory_after}
-use Rattle.image_reader.specs.declared.ReadAnswer.{ReadAnswer}
 use Rattle.entry.proofs.Refusals.{image-number}
 use Rattle.held_runs.specs.Opened.{opened, replaced}
 use Rattle.held_images.specs.Images.{image_read, machine_read, restart_of}
@@ -33,32 +35,26 @@ module _ (image bytes words : List ℕ) where
   unfolding image_read
   read_is h = simp (le-leb _ _ h)
 
-  -- the reader's number and machine, by its answer
-  refusing : (none : Machine) (a : Answer Image) → ((machine_after none a).number ≡ 0 → ⊥) → ((machine_after none a).number ≡ number_of a) × (bytes ≡ replaced bytes (machine_read a))
-  unfolding machine_after
-  refusing none (ok i) h = absurd (h refl)
-  refusing none (refuse n) h = (refl, refl)
+  refusing : (a : Answer Image) (e : Refusal) → number e ≡ number_of a → bytes ≡ replaced bytes (machine_read a)
+  refusing (ok i) e h = absurd (number-some e h)
+  refusing (refuse n) e h = refl
 
-  accepting : (none : Machine) (a : Answer Image) (enough : Bool) → (require enough 7 >> image_of image) ≡ a → (machine_after none a).number ≡ 0
-      → (0 ≡ number_of a) × (with_record bytes (machine_after none a).machine ≡ replaced bytes (machine_read a))
+  accepting : (none : Machine) (a : Answer Image) (enough : Bool) → (require enough 7 >> image_of image) ≡ a → 0 ≡ number_of a
+      → with_record bytes (machine_after none a) ≡ replaced bytes (machine_read a)
   unfolding machine_after
-  accepting none (ok i) enough e h = (refl, refl)
+  accepting none (ok i) enough e h = refl
   accepting none (refuse n) true e h = absurd (let q = image-number image n e in omega (arith, q.0, h))
   accepting none (refuse n) false e h = absurd (let z : 7 ≡ n = ap number_of e in omega (arith, z, h))
 
-  module _ (none : Machine) (r : ReadAnswer) (memory : List ℕ) (room : 1079 ≤ length bytes) (is : r ≡ machine_after none (read_image image words)) (left : memory ≡ memory_after words (read_image image words)) where
-    number_is : r.number ≡ (machine_after none (read_image image words)).number
-    number_is = ap (λ (x : ReadAnswer). x.number) is
+  module _ (memory : List ℕ) (room : 1079 ≤ length bytes) (left : memory ≡ memory_after words (read_image image words)) where
+    pub read-refused : (e : Refusal) → number e ≡ number_of (read_image image words) → Reads (number e) bytes memory
+    read-refused e h = rw (read_is room) (h, (refusing (read_image image words) e h, left))
 
-    pub read-refused : (r.number ≡ 0 → ⊥) → Reads r.number bytes memory
-    read-refused h =
-        let q = refusing none (read_image image words) (λ z. h (number_is ∙ z)) in rw (read_is room) ((number_is ∙ q.0, (q.1, left)))
-
-    pub read-accepted : (after : List ℕ) → r.number ≡ 0 → after ≡ with_record bytes r.machine → Reads 0 after memory
+    pub read-accepted : (none m : Machine) (after : List ℕ) → 0 ≡ number_of (read_image image words) → m ≡ machine_after none (read_image image words)
+        → after ≡ with_record bytes m → Reads 0 after memory
     unfolding read_image
-    read-accepted after h wrote =
-        let q = accepting none (read_image image words) (leb 8192 (length words)) refl (sym number_is ∙ h) in
-        rw (read_is room) ((q.0, (wrote ∙ ap (λ (x : ReadAnswer). with_record bytes x.machine) is ∙ q.1, left)))
+    read-accepted none m after h is wrote =
+        rw (read_is room) (h, (wrote ∙ ap (with_record bytes) is ∙ accepting none (read_image image words) (leb 8192 (length words)) refl h, left))
 
 -- a number and a record are those of a restart
 module _ (bytes : List ℕ) where
