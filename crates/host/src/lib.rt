@@ -6,5 +6,6 @@ pub mod image_run;
 pub mod images;
 pub mod logging;
 pub mod looks;
+mod numbers;
 pub mod running;
 pub mod stepping;
