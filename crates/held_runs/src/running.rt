@@ -63,6 +63,7 @@ fn sound(m: &Machine) -> bool
 }
 
 // What is judged first, as every call on a machine does.
+#[tactic(auto, unfolding(runs::specs::Run::judged))]
 fn judge(m: &Machine, words: &[u32]) -> Result<(), Refusal>
     requires { UnusedFree m.now }
     ensures { status result ≡ judged m.now words.now }

@@ -1,10 +1,7 @@
 -- `held_runs::running::keep` meets its contract.
-use mathlib.Core.Path.{refl, sym, ◌∙◌}
+use mathlib.Core.Path.{sym, ◌∙◌}
 use Rattle.held_runs.proofs.RunLaws.{put}
 use Rattle.held_runs.proofs.running.keep.Goals as goal
-
-pub returns-in-Refused : goal.returns-in-Refused
-returns-in-Refused c = simp c.in-Refused.is refl
 
 pub returns-in_default : goal.returns-in_default
 returns-in_default c =
