@@ -9,12 +9,11 @@ use Rattle.words.specs.Refusal.{number}
 use Rattle.words.specs.declared.refusal.Refusal.{Refusal}
 use Rattle.words.proofs.Results.{number-some}
 use Rattle.state.specs.declared.record.Machine.{Machine}
-use Rattle.snapshot_format.specs.RecordForm.{record_in}
-use Rattle.snapshot_reader.specs.Formed.{formed}
 use Rattle.record_checks.specs.Judged.{judged_check}
 use Rattle.record_checks.proofs.Judged.{judged-lt}
 use Rattle.segments.specs.Segment.{segment_check, part_start, part_size}
 use Rattle.segments.proofs.Parts.{Given, starts, sized}
+use Rattle.state.specs.Bases.{base_of}
 use Rattle.held_runs.specs.Opened.{opened}
 use Rattle.host.specs.Looks.{access_of, pointer_to, checked_on, segment_on}
 
@@ -29,12 +28,12 @@ module _ (bytes : List ℕ) (write tag segment word : ℕ) where
 
   -- an index is below 8,192
   pub checked-lt : (i : ℕ) → checked_on bytes write tag segment word ≡ ok i → i < 8192
-  unfolding checked_on opened
-  checked-lt i e = by (formed bytes) e
+  unfolding checked_on
+  checked-lt i e = by (opened bytes) e
     where
-      by : (a : Answer (Unit {0})) → ((a >> ok (record_in bytes)) >>= (λ m. judged_check m (access_of write) (pointer_to tag segment word))) ≡ ok i → i < 8192
+      by : (a : Answer Machine) → (a >>= (λ m. judged_check m (access_of write) (pointer_to tag segment word))) ≡ ok i → i < 8192
       by (refuse n) e = absurd (let z : ◌≡◌ {A = ℕ} 0 1 = cc in omega arith)
-      by (ok u) e = judged-lt (record_in bytes) _ _ i e
+      by (ok m) e = judged-lt m _ _ i e
 
 -- the answer to the question for a segment
 module _ (bytes : List ℕ) (size segment : ℕ) where
@@ -55,7 +54,8 @@ module _ (bytes : List ℕ) (size segment : ℕ) where
   unfolding segment_on
   place-made m from to e g p q =
       let b : to - from ≡ get_or m.layout.lengths segment 0 = omega (arith, p, q, sized m size segment g) in
-      rw (e, g.accepted, p ∙ starts m size segment g, b) refl
+      let s : from ≡ base_of m.layout.lengths segment = p ∙ starts m size segment g in
+      rw (e, g.accepted) (λ j. ok (s j, b j))
 
 -- where a segment begins and ends, below 8,193
 pub bounds : (m : Machine) (size segment from to : ℕ) → Given m size segment → from ≡ part_start m size segment → to ≡ part_start m size segment + part_size m size segment → (from ≤ to) × (to ≤ 8192)

@@ -27,5 +27,17 @@ known c = given _ _ _ _ c.in_ok-segment_number.ensures refl
 bounded : (c : After-span-s) → (c.span-s.result.from ≤ c.span-s.result.to) × (c.span-s.result.to ≤ 8192)
 bounded c = bounds _ _ _ _ _ (known c) c.span-s.ensures.from_value.0 c.span-s.ensures.from_value.1
 
+pub overflow_cast-result : goal.overflow_cast-result
+overflow_cast-result c = record { fits = omega (arith, bounded (goal.at.overflow_cast-result c).After-span-s) }
+
+pub overflow_sub-result : goal.overflow_sub-result
+overflow_sub-result c = omega (arith, bounded (goal.at.overflow_sub-result c).After-span-s)
+
+pub overflow_cast-result-2 : goal.overflow_cast-result-2
+overflow_cast-result-2 c = record { fits = omega (arith, bounded (goal.at.overflow_cast-result-2 c).After-span-s) }
+
 pub returns : goal.returns
-returns c = ?
+returns c =
+    let a = c.args in
+    let s = c.span-s.ensures.from_value in
+    place-made a.bytes.now (length a.words.now) a.segment _ _ _ (opened-ok _ _ c.in_ok-form_number.ensures c.record_or_empty-m.ensures) (known (goal.at.returns c).After-span-s) s.0 s.1
