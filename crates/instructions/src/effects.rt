@@ -22,15 +22,17 @@ use transfers::{Way, call_way};
 use words::arithmetic::{difference, sum};
 use words::pointer::Pointer;
 
-// On to the next word with another A.
+// On to the next word with another A. Here and below the registers are put together field by field: a copy of the struct would be made whole and taken apart again at each instruction.
 pub fn onward(r: Registers, a: u32, event: Event) -> Cycle
     requires { r.word < 65535 }
     ensures { result ≡ record { registers = moved_registers r a r.segment (r.word + 1); event = event } }
 {
+    let word = r.word + 1;
     let registers = Registers {
         a,
-        word: r.word + 1,
-        ..r
+        word,
+        segment: r.segment,
+        domain: r.domain,
     };
     Cycle { registers, event }
 }
@@ -40,9 +42,10 @@ pub fn go_to(r: Registers, p: Pointer, event: Event) -> Cycle
     ensures { result ≡ record { registers = moved_registers r r.a p.segment p.word; event = event } }
 {
     let registers = Registers {
+        a: r.a,
         word: p.word,
         segment: p.segment,
-        ..r
+        domain: r.domain,
     };
     Cycle { registers, event }
 }
@@ -51,10 +54,13 @@ pub fn go_to(r: Registers, p: Pointer, event: Event) -> Cycle
 pub fn stay(r: Registers, event: Event) -> Cycle
     ensures { result ≡ record { registers = r; event = event } }
 {
-    Cycle {
-        registers: r,
-        event,
-    }
+    let registers = Registers {
+        a: r.a,
+        word: r.word,
+        segment: r.segment,
+        domain: r.domain,
+    };
+    Cycle { registers, event }
 }
 
 // What LOAD, ADD and SUB make of A and a word.

@@ -5,8 +5,8 @@ ghost use Rattle.record_checks.specs.Judged.{judged_check};
 
 use crate::view::view_of;
 use lent_registers::columns::spread;
-use references::flag::Access;
-use references::reference::reference;
+use references::flag::{Access, asked};
+use references::reference::{live_reference, locate};
 use soundness::sound;
 use state::record::Machine;
 use words::pointer::Pointer;
@@ -19,6 +19,10 @@ pub fn check_reference(m: Machine, access: Access, p: Pointer) -> Result<usize, 
     if !sound(m) {
         return Err(Refusal::NotSound);
     }
+    let view = view_of(m);
+    if !p.tag {
+        return locate(&view, m.registers.domain, asked(access), p.segment, p.word);
+    }
     let recent = spread(m.recent);
-    reference(&view_of(m), m.registers.domain, &recent, access, p)
+    live_reference(&view, &recent, access, p)
 }
