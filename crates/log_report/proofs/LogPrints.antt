@@ -13,7 +13,7 @@ use Rattle.text.specs.Text.{text, labelled, line}
 use Rattle.text.specs.Put.{printed_in}
 use Rattle.log_report.specs.LogText.{crossing_line, totals_text, image_crossings, crossings_text, log_report_of, log_printed_of}
 use Rattle.log_theorems.specs.ReadBack.{records_in}
-use Rattle.log_report.specs.Private.{counted, totals_of, log_with}
+use Rattle.log_report.specs.Private.{totals_in, totals_of, log_with}
 use Rattle.log_report.specs.declared.image_log.Totals.{Totals}
 use Rattle.log_theorems.proofs.LogBack.{records-back}
 use Rattle.log_report.proofs.ImageLogs.{image-few, totals-passed}
@@ -40,7 +40,7 @@ module _ (image : List ℕ) where
     unfolding cs
     is = (totals-passed (image_crossings image) t e).is
 
-    totals-are : t ≡ counted cs
+    totals-are : t ≡ totals_in cs
     totals-are = the_value (e ∙ ap totals_of is)
 
     count-is : t.calls + t.returns ≡ length cs

@@ -8,13 +8,13 @@ use Rattle.crossing_log.specs.Log.{crossing_bytes, of_kind}
 use Rattle.log_report.specs.declared.image_log.Totals.{Totals}
 
 -- how many calls and returns there are
-abbrev pub counted : List Crossing → Totals
-counted cs = record { calls = of_kind call cs; returns = of_kind return cs }
+abbrev pub totals_in : List Crossing → Totals
+totals_in cs = record { calls = of_kind call cs; returns = of_kind return cs }
 
 -- the totals of an image's crossings, or the refusal
 abbrev pub totals_of : Answer (List Crossing) → Answer Totals
 totals_of (refuse n) = refuse n
-totals_of (ok cs) = ok (counted cs)
+totals_of (ok cs) = ok (totals_in cs)
 
 -- the log with an image's crossings; a refusal leaves it
 abbrev pub log_with : List ℕ → Answer (List Crossing) → List ℕ
