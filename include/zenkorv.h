@@ -78,16 +78,16 @@ enum zenkorv_ending {
 
 /* The bytes of stack that each call needs on x86-64, its return address included: the bound of tools/stack, rounded up
    with 128 to 255 bytes to spare. Another processor, or another compiler, needs its own figures. */
-#define ZENKORV_STACK_READ 6272
-#define ZENKORV_STACK_RUN 6144
-#define ZENKORV_STACK_STRETCH 6144
-#define ZENKORV_STACK_LOG 8704
-#define ZENKORV_STACK_STEP 6400
-#define ZENKORV_STACK_WRITE 4480
-#define ZENKORV_STACK_SEGMENT 4352
-#define ZENKORV_STACK_CHECK 6272
-#define ZENKORV_STACK_RESTART 5376
-#define ZENKORV_STACK_ENTRY 40192
+#define ZENKORV_STACK_READ 3328
+#define ZENKORV_STACK_RUN 7296
+#define ZENKORV_STACK_STRETCH 7296
+#define ZENKORV_STACK_LOG 8320
+#define ZENKORV_STACK_STEP 6016
+#define ZENKORV_STACK_WRITE 3584
+#define ZENKORV_STACK_SEGMENT 3328
+#define ZENKORV_STACK_CHECK 4480
+#define ZENKORV_STACK_RESTART 4608
+#define ZENKORV_STACK_ENTRY 39936
 
 /*
  * The record's bytes. Numbers are little-endian, flags are 0 or 1, rows that are not in use are zeros. The firmware may
