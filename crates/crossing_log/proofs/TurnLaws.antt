@@ -9,6 +9,7 @@ use borrow.Author.Tests.{le-leb}
 use lib.Dec.{ltb}
 use lib.ListN.{length}
 use Rattle.words.specs.Bit.{bit}
+use Rattle.words.specs.declared.refusal.Refusal.{Refusal}
 use Rattle.state.specs.declared.record.Machine.{Machine}
 use Rattle.soundness.proofs.Facts.{sound-facts}
 use Rattle.runs.specs.declared.outcome.End.{End}
@@ -140,7 +141,7 @@ judged-run : (run : Machine → List ℕ → Ran) (m : Machine) (words : List �
 unfolding judged_run
 judged-run run m words s = rw (le-leb m.depth 8 (sound-facts m s.0).frames.most) refl
 
-crossed-only : (e : End) → end_answer e ≡ crossed → e ≡ end.Crossed
+crossed-only : (e : End Refusal) → end_answer e ≡ crossed → e ≡ end.Crossed
 crossed-only end.Crossed q = refl
 crossed-only end.Halted q = absurd (let z : ◌≡◌ {A = ℕ} 0 1 = cc in omega arith)
 crossed-only (end.Faulted f) q = absurd (let z : ◌≡◌ {A = ℕ} 0 1 = cc in omega arith)

@@ -21,7 +21,7 @@ is_refused (faulted n) = 0
 is_refused (refused n) = 1
 
 -- an end that is not refused stands for no refusal
-no-refusal : (e : End) (k : ℕ) → end_answer e ≡ refused k → ((r : Refusal) → e ≡ end.Refused r → ⊥) → ⊥
+no-refusal : (e : End Refusal) (k : ℕ) → end_answer e ≡ refused k → ((r : Refusal) → e ≡ end.Refused r → ⊥) → ⊥
 no-refusal end.Halted k q h = let z : ◌≡◌ {A = ℕ} 0 1 = ap is_refused q in omega (arith, z)
 no-refusal (end.Faulted r) k q h = let z : ◌≡◌ {A = ℕ} 0 1 = ap is_refused q in omega (arith, z)
 no-refusal end.Spent k q h = let z : ◌≡◌ {A = ℕ} 0 1 = ap is_refused q in omega (arith, z)

@@ -15,7 +15,7 @@ use Rattle.snapshot_format.specs.RecordForm.{with_record}
 use Rattle.runs.specs.declared.outcome.End.{End}
 use Rattle.runs.specs.declared.outcome.End.TheVariants as end
 use Rattle.runs.specs.declared.outcome.Outcome.{Outcome}
-use Rattle.runs.specs.Run.{Ran, ran, refused, end_answer, ran_answer}
+use Rattle.runs.specs.Run.{Ran, ran, refused, end_by, end_answer, ran_answer}
 use Rattle.processor.specs.declared.Pace.{Pace}
 use Rattle.processor.specs.declared.Stepped.{Stepped}
 use Rattle.processor.specs.Calls.{Step, step_call, halts, step_answer}
@@ -46,12 +46,12 @@ module _ (call : Machine → List ℕ → Ran) (bytes words : List ℕ) where
   run-ended m o code after memory e q c k = rw (c, k) (ended m (ran_answer o memory) e q)
 
 -- what a run puts stands there where it was not refused
-pub put : {A : Type 0} (before after : A) (e : End) → ((r : Refusal) → e ≡ end.Refused r → ⊥) → ended_with before after (end_answer e) ≡ after
-put before after end.Halted h = refl
-put before after (end.Faulted r) h = refl
-put before after end.Spent h = refl
-put before after end.Crossed h = refl
-put before after (end.Refused r) h = absurd (h r refl)
+pub put : {A N : Type 0} (number : N → ℕ) (before after : A) (e : End N) → ((r : N) → e ≡ end.Refused r → ⊥) → ended_with before after (end_by number e) ≡ after
+put number before after end.Halted h = refl
+put number before after (end.Faulted r) h = refl
+put number before after end.Spent h = refl
+put number before after end.Crossed h = refl
+put number before after (end.Refused r) h = absurd (h r refl)
 
 module _ (call : Machine → List ℕ → Step) (bytes words : List ℕ) where
   -- the same of a step

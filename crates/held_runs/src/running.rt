@@ -1,13 +1,13 @@
 // Runs and stretches of the record that bytes hold.
 ghost use Rattle.std.specs.Prelude.{◌≡◌, ◌+◌};
 ghost use Rattle.words.specs.Refusal.{status};
-ghost use Rattle.runs.specs.Run.{run_from, judged, called_of, end_answer};
+ghost use Rattle.runs.specs.Run.{run_from, judged, called_of, end_by};
 ghost use Rattle.soundness.specs.Sound.{frames_test, sound_test};
 ghost use Rattle.held_runs.specs.Private.{UnusedFree};
 ghost use Rattle.held_runs.specs.Runs.{end_code, ended_bytes, ran_on, ran_code, ran_bytes, ran_words};
 
 use layout_soundness::layout_sound;
-use runs::outcome::{End, Outcome};
+use runs::outcome::{End, Outcome, Reason};
 use runs::run_judged;
 use snapshot_reader::{form_number, record_or_empty};
 use snapshot_writer::put_record;
@@ -16,9 +16,9 @@ use soundness::registers::{pointers_sound, registers_sound};
 use state::record::Machine;
 use words::refusal::Refusal;
 
-// How a run ended, and its count, as one number.
-pub fn code(count: u16, end: End) -> u32
-    ensures { result ≡ end_code (end_answer end) + count }
+// How a run ended, with any number as its reason, and its count, as one number.
+pub fn code<N: Reason>(count: u16, end: End<N>) -> u32
+    ensures { result ≡ end_code (end_by N.number end) + count }
 {
     match end {
         End::Halted => count as u32,
@@ -30,8 +30,8 @@ pub fn code(count: u16, end: End) -> u32
 }
 
 // Puts the record of a run back, unless it was refused.
-pub fn keep(bytes: &mut [u8], m: Machine, end: End)
-    ensures { bytes.new ≡ ended_bytes bytes.old m (end_answer end) }
+pub fn keep<N: Reason>(bytes: &mut [u8], m: Machine, end: End<N>)
+    ensures { bytes.new ≡ ended_bytes bytes.old m (end_by N.number end) }
 {
     match end {
         End::Refused(refusal) => {}

@@ -2,6 +2,7 @@
 use Rattle.std.specs.Prelude.{ℕ, zero, suc, ◌+◌, Bool, List, eqb, leb, length, if◌then◌else◌}
 use Rattle.words.specs.Answer.{Answer, refuse, ok}
 use Rattle.words.specs.Refusal.{number}
+use Rattle.words.specs.declared.refusal.Refusal.{Refusal}
 use Rattle.words.specs.Numbers.{memory_too_short, not_sound}
 use Rattle.state.specs.declared.record.Machine.{Machine}
 use Rattle.soundness.specs.Sound.{sound_test}
@@ -52,13 +53,17 @@ called_of run m words = if eqb (judged m words) 0 then run m words else ran m wo
 unfoldable pub judged_run : (Machine → List ℕ → Ran) → Machine → List ℕ → Ran
 judged_run run m words = if leb m.depth 8 then run m words else ran m words 0 (refused not_sound)
 
+-- what an end stands for whose reasons have these numbers
+abbrev pub end_by : {N : Type 0} → (N → ℕ) → End N → Ending
+end_by told end.Halted = halted
+end_by told (end.Faulted r) = faulted (told r)
+end_by told end.Spent = spent
+end_by told end.Crossed = crossed
+end_by told (end.Refused r) = refused (told r)
+
 -- what the code's answers stand for
-abbrev pub end_answer : End → Ending
-end_answer end.Halted = halted
-end_answer (end.Faulted r) = faulted (number r)
-end_answer end.Spent = spent
-end_answer end.Crossed = crossed
-end_answer (end.Refused r) = refused (number r)
+abbrev pub end_answer : End Refusal → Ending
+end_answer e = end_by number e
 
 abbrev pub ran_answer : Outcome → List ℕ → Ran
 ran_answer o words = ran o.machine words o.count (end_answer o.end)

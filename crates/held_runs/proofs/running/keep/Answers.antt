@@ -4,6 +4,6 @@ use Rattle.held_runs.proofs.RunLaws.{put}
 use Rattle.held_runs.proofs.running.keep.Goals as goal
 
 pub returns-in_default : goal.returns-in_default
-returns-in_default c =
+returns-in_default g c =
     let a = c.args in
-    c.put_record.ensures ∙ sym (put a.bytes.now _ a.end c.in_default.not-Refused)
+    c.put_record.ensures ∙ sym (put g.N.Reason.number a.bytes.now _ a.end c.in_default.not-Refused)
