@@ -50,8 +50,8 @@ fn numbers_sound(recent: [Register; 16]) -> bool
 }
 
 // Whether a register is sound; f is the frame that it names.
-fn register_sound(depth: u8, f: Frame, r: Register) -> bool
-    ensures { result ≡ register_test depth f r }
+fn register_sound(depth: u8, f: &Frame, r: Register) -> bool
+    ensures { result ≡ register_test depth f.now r }
 {
     if r.frame == 0 {
         return r.capability == Capability::NONE;
@@ -69,7 +69,7 @@ fn contents_sound(depth: u8, frames: [Frame; 8], recent: [Register; 16]) -> bool
         if 8 <= k {
             return false;
         }
-        let f = frames[k];
+        let f = &frames[k];
         if !register_sound(depth, f, r) {
             return false;
         }
