@@ -1,5 +1,5 @@
 -- What calls with each number below n make of an array or of a test, zeros, and which bytes of a record are looked at.
-use Prim.Native.Nat.{ℕ, zero, suc, ◌+◌, ◌<◌, ◌≤◌, ◌-◌, max}
+use Prim.Native.Nat.{ℕ, zero, suc, ◌+◌, ◌*◌, ◌<◌, ◌≤◌, ◌-◌, max}
 use native.Mathlib.Omega.{arith}
 use native.Mathlib.Decide.{ℕ_discrete}
 use native.Mathlib.Numerals.{add-one}
@@ -21,14 +21,14 @@ use Rattle.std.specs.declared.ops.Range.{Range}
 use Rattle.std.specs.Array.{IsFromFnResult, IsFromFnResultFrom}
 use denote.Param.Members.{Mut, Called}
 use lib.Seq.{ext_get_or, get_or-take}
-use Rattle.std.proofs.lemmas.List.{get_or-drop}
+use Rattle.std.proofs.lemmas.List.{get_or-drop, length-drop, length-take-le}
 use Rattle.words.specs.Answer.{require, number_of}
 use Rattle.words.specs.Numbers.{not_sound}
 use Rattle.layout_soundness.specs.SoundLayout.{all_from}
 use Rattle.layout_soundness.proofs.All.{one_more, each, all}
 use Rattle.state.specs.Record.{free_frame}
 use Rattle.snapshot_format.specs.Tabulate.{tabulate}
-use Rattle.snapshot_format.specs.Format.{rows_of, counted, zeros}
+use Rattle.snapshot_format.specs.Format.{byte_form, rows_of, counted, zeros}
 use Rattle.snapshot_format.specs.RecordForm.{pointer_form, frame_form, register_form, record_form}
 use Rattle.snapshot_format.proofs.Fill.{tabulate-length, tabulate-at}
 use Rattle.snapshot_reader.specs.Formed.{formed}
@@ -81,6 +81,13 @@ module _ {F A : Type 0} (g : Mut F (ℕ × Unit {0}) A) (f : F) (h : ℕ → A) 
   made n m =
       ext_get_or d ys (tabulate n h) (m.long ∙ sym (tabulate-length h n))
       (λ k l. made-from n 0 f refl m.each k (omega arith) (omega (arith, m.long)) ∙ sym (tabulate-at h d n k (omega (arith, m.long))))
+
+-- the n bytes from a place on are a row of bytes
+pub row-taken : (b : List ℕ) (i n : ℕ) → i + n ≤ length b → take (i + n - i) (drop i b) ≡ (rows_of n byte_form).value b i
+row-taken b i n h =
+    let long : length (take (i + n - i) (drop i b)) ≡ n = length-take-le (i + n - i) (drop i b) (omega (arith, h, length-drop i b)) ∙ omega arith in
+    ext_get_or 0 (take (i + n - i) (drop i b)) (tabulate n (λ k. get_or b (i + k * 1) 0)) (long ∙ sym (tabulate-length _ n))
+    (λ k l. get_or-take (i + n - i) (drop i b) k 0 (omega (arith, long)) ∙ get_or-drop i b k 0 ∙ ap (λ (j : ℕ). get_or b (i + j) 0) (let e : k ≡ k * 1 = omega arith in e) ∙ sym (tabulate-at (λ (j : ℕ). get_or b (i + j * 1) 0) 0 n k (omega (arith, long))))
 
 one-fails : (n : ℕ) (p : ℕ → Bool) (k : ℕ) → k < n → p k ≡ false → false ≡ all_from n 0 p
 one-fails n p k h e = by (all_from n 0 p) refl

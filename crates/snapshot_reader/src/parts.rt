@@ -2,7 +2,7 @@
 ghost use Rattle.std.specs.Prelude.{◌≡◌, ◌+◌, ◌≤◌, length};
 ghost use Rattle.snapshot_format.specs.RecordForm.{pointer_form, capability_form, start_form, layout_form, registers_form, register_form};
 
-use crate::numbers::{pair, quad};
+use crate::numbers::{pair, quad, row};
 use state::record::{Capability, Layout, Register, Registers, Start};
 use std::array;
 use words::pointer::Pointer;
@@ -68,9 +68,9 @@ pub fn layout(bytes: &[u8]) -> Layout
         lengths: array::from_fn(|k| pair(bytes, k * 2)),
         gates: array::from_fn(|k| pair(bytes, 32 + k * 2)),
         start: start(bytes),
-        gatedomains: array::from_fn(|k| bytes[68 + k]),
-        stacks: array::from_fn(|k| bytes[84 + k]),
-        rights: array::from_fn(|k| bytes[92 + k]),
+        gatedomains: row(bytes, 68),
+        stacks: row(bytes, 84),
+        rights: row(bytes, 92),
         segments: bytes[220],
         domains: bytes[221],
     }
