@@ -40,9 +40,9 @@ pub fn keep<N: Reason>(bytes: &mut [u8], m: Machine, end: End<N>)
 }
 
 // Whether the frames are sound; those that are not in use are known to be zeros.
-fn frames_sound(m: &Machine) -> bool
-    requires { UnusedFree m.now }
-    ensures { result ≡ frames_test m.now.layout.domains m.now.depth m.now.frames }
+fn frames_sound(m: Machine) -> bool
+    requires { UnusedFree m }
+    ensures { result ≡ frames_test m.layout.domains m.depth m.frames }
 {
     let domains = m.layout.domains;
     let used = m.depth as usize;
@@ -51,9 +51,9 @@ fn frames_sound(m: &Machine) -> bool
 
 // Whether a record is sound whose frames that are not in use are zeros.
 #[tactic(auto, unfolding(soundness::specs::Sound::sound_test))]
-fn sound(m: &Machine) -> bool
-    requires { UnusedFree m.now }
-    ensures { result ≡ sound_test m.now }
+fn sound(m: Machine) -> bool
+    requires { UnusedFree m }
+    ensures { result ≡ sound_test m }
 {
     layout_sound(m.layout)
         && registers_sound(m.layout.domains, m.registers)
@@ -64,9 +64,9 @@ fn sound(m: &Machine) -> bool
 
 // What is judged first, as every call on a machine does.
 #[tactic(auto, unfolding(runs::specs::Run::judged))]
-fn judge(m: &Machine, words: &[u32]) -> Result<(), Refusal>
-    requires { UnusedFree m.now }
-    ensures { status result ≡ judged m.now words.now }
+fn judge(m: Machine, words: &[u32]) -> Result<(), Refusal>
+    requires { UnusedFree m }
+    ensures { status result ≡ judged m words.now }
 {
     if !sound(m) {
         return Err(Refusal::NotSound);
@@ -87,7 +87,7 @@ pub fn run_held(bytes: &mut [u8], words: &mut [u32], limit: u16, stretch: bool) 
         return code(0, End::Refused(refusal));
     }
     let m = record_or_empty(bytes);
-    if let Err(refusal) = judge(&m, words) {
+    if let Err(refusal) = judge(m, words) {
         return code(0, End::Refused(refusal));
     }
     let o = run_judged(m, words, limit, stretch);

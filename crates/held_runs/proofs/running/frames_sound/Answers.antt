@@ -12,6 +12,6 @@ use Rattle.held_runs.proofs.running.frames_sound.Goals as goal
 
 pub returns : goal.returns
 returns c =
-    let m = c.args.m.now in
+    let m = c.args.m in
     let row : ℕ → Bool = λ k. frame_test m.layout.domains (get_or m.frames k no_frame) in
     tested _ _ row _ (λ k y q h. search rules) m.depth _ c.all.ensures.ran ∙ frames-in-use m _ c.requires
