@@ -79,8 +79,8 @@ enum zenkorv_ending {
 /* The bytes of stack that each call needs on x86-64, its return address included: the bound of tools/stack, rounded up
    with 128 to 255 bytes to spare. Another processor, or another compiler, needs its own figures. */
 #define ZENKORV_STACK_READ 3328
-#define ZENKORV_STACK_RUN 7296
-#define ZENKORV_STACK_STRETCH 7296
+#define ZENKORV_STACK_RUN 6528
+#define ZENKORV_STACK_STRETCH 6528
 #define ZENKORV_STACK_LOG 8320
 #define ZENKORV_STACK_STEP 6016
 #define ZENKORV_STACK_WRITE 3584
